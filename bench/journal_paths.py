@@ -37,15 +37,15 @@ def expect(what, found, expected):
         raise Wrong(f"{what}: {found!r}, and {expected!r} was expected")
 
 
-def words(program, journal):
-    return [program, "serve", "map.map", "--port", "0", "--admin-port", "0", "--workers", "1", "--journal", journal]
+def words(program, journal, *options):
+    return [program, "serve", "map.map", "--port", "0", "--admin-port", "0", "--workers", "1", "--journal", journal, *options]
 
 
 class Server:
     """A server that listens."""
 
-    def __init__(self, program, folder, journal="journal", bounded=None):
-        self.process = subprocess.Popen(words(program, journal), cwd=folder, stdout=subprocess.PIPE, stderr=subprocess.PIPE, preexec_fn=bounded)
+    def __init__(self, program, folder, journal="journal", bounded=None, options=()):
+        self.process = subprocess.Popen(words(program, journal, *options), cwd=folder, stdout=subprocess.PIPE, stderr=subprocess.PIPE, preexec_fn=bounded)
         ports = ports_of(self.process.stdout.readline())
         if ports is None:
             raise Wrong(f"no server: {self.process.stderr.read()}")
@@ -194,6 +194,20 @@ def one_server_has_a_journal(program, folder):
     expect("the files", sorted(files_of(folder)), ["journal", "map.map"])
 
 
+def torn_records_are_said(program, folder):
+    with Server(program, folder) as server:
+        expect("the answer", server.submit(), "PUBLISHED")
+    whole = (folder / "journal").read_bytes()
+    line = "warning journal journal: a torn record of 7 bytes was cut off\n"
+    for options, said in ((), ""), (("--log",), line), (("--explain",), line):
+        (folder / "journal").write_bytes(whole + b"1234567")
+        with Server(program, folder, options=options) as server:
+            server.process.terminate()
+            errors = "".join(text for text in server.ended()[1].splitlines(True) if "journal" in text)
+        expect(f"what is said with {options}", errors, said)
+        expect("the journal", (folder / "journal").read_bytes(), whole)
+
+
 def few_descriptors():
     resource.setrlimit(resource.RLIMIT_NOFILE, (DESCRIPTORS, DESCRIPTORS))
 
@@ -224,6 +238,7 @@ ROWS = [
     removed_journals_fail,
     replaced_journals_fail,
     one_server_has_a_journal,
+    torn_records_are_said,
     batches_are_kept_where_clients_take_every_descriptor,
 ]
 

@@ -32,7 +32,7 @@ pub(crate) const SERVE_OPTIONS: [NumberOption<'static>; 6] = [
         most: 4_294_967_295,
         default: "0",
         value: "COUNT",
-        help: "Connections that each port takes in all, 0 for no end",
+        help: "Stop after this many connections at each port, 0 for never",
     },
     NumberOption {
         name: "idle",

@@ -3,7 +3,7 @@
 use crate::maps::machine;
 use crate::tape::Tape;
 use journal::{encode, push_header};
-use journalfile::{Journal, recover};
+use journalfile::{Journal, Recovered, recover};
 use std::alloc::{AllocError, Global};
 use std::test::Fail;
 
@@ -30,7 +30,7 @@ fn found(alloc: Global, bytes: &[u8]) -> Result<u64, AllocError> {
     let mut tape = Tape::new(alloc, bytes.to_vec(alloc)?, 0);
     let mut machine = machine(alloc, NAME)?;
     match recover(alloc, &FINGERPRINT, &mut tape, &mut machine) {
-        Ok(count) => Ok(count),
+        Ok(recovered) => Ok(recovered.count),
         Err(_) => Ok(99),
     }
 }
@@ -39,7 +39,7 @@ fn found(alloc: Global, bytes: &[u8]) -> Result<u64, AllocError> {
 fn keep(alloc: Global, tape: Tape, batch: &[u8]) -> Result<(Tape, bool), AllocError> {
     let mut tape = tape;
     let mut machine = machine(alloc, NAME)?;
-    let Ok(count) = recover(alloc, &FINGERPRINT, &mut tape, &mut machine) else {
+    let Ok(Recovered { count, .. }) = recover(alloc, &FINGERPRINT, &mut tape, &mut machine) else {
         return Ok((tape, false));
     };
     if count > 9 {

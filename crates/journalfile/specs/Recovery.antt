@@ -8,6 +8,7 @@ use Rattle.journal.specs.Reading.{StartsWithNumber, ContainsRecord, Reads, Stand
 use Rattle.journal.specs.declared.header.HeaderFault.{HeaderFault}
 use Rattle.journal.specs.declared.header.HeaderFault.TheVariants as header_fault
 use Rattle.journalfile.specs.Log.{Only}
+use Rattle.journalfile.specs.declared.recovery.Recovered.{Recovered}
 use Rattle.journalfile.specs.declared.recovery.RecoverFault.{RecoverFault}
 use Rattle.journalfile.specs.declared.recovery.RecoverFault.TheVariants as recover_fault
 use Rattle.journalfile.specs.declared.recovery.ReplayFault.{ReplayFault}
@@ -33,14 +34,15 @@ module _ (fingerprint : List ℕ) where
 
   module _ {L : Type 0} (content : L → List ℕ) where
     -- the machine is in the state after some batches, as many as the count. Where the log is reliable, the bytes stood for them, and the log
-    -- has their journal now, which each crash leaves
-    pub record HasRecovered (reliable : Type 0) (may_leave : L → List ℕ → Type 0) (old new : L) (first last : State) (count : ℕ) : Type 0 where
+    -- has their journal now, which each crash leaves; so many bytes of a torn tail were cut off
+    pub record HasRecovered (reliable : Type 0) (may_leave : L → List ℕ → Type 0) (old new : L) (first last : State) (recovered : Recovered) : Type 0 where
       pub batches : List (List ℕ)
-      pub counted : count ≡ length batches
+      pub counted : recovered.count ≡ length batches
       pub after : after accepted first batches ≡ Some last
       pub stood : reliable → StandsFor fingerprint (content old) batches
       pub journal : reliable → content new ≡ journal_of sha256 fingerprint batches
       pub durable : reliable → Only (content new) (may_leave new)
+      pub cut : reliable → length (content old) ≡ length (content new) + recovered.cut
 
     -- the header isn't that of the map's journal
     abbrev pub IsHeaderFault : L → HeaderFault → Type 0

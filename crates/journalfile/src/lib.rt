@@ -17,5 +17,5 @@ mod writing;
 
 pub use keeps::{KeepFault, Keeps, Nowhere};
 pub use log::{Log, ReadError};
-pub use recovery::{RecoverFault, recover};
+pub use recovery::{RecoverFault, Recovered, recover};
 pub use writing::{Journal, PutFault};

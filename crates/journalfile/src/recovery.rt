@@ -15,6 +15,15 @@ use journal::{HeaderFault, after_header, contains_record, first_record};
 use mapmachine::{BatchError, Machine};
 use std::alloc::{AllocError, Global};
 
+/// A journal that was opened.
+#[derive(Clone, Copy, Debug)]
+pub struct Recovered {
+    /// How many batches it has.
+    pub count: u64,
+    /// How many bytes of a torn tail were cut off.
+    pub cut: usize,
+}
+
 /// Why a journal isn't opened.
 #[derive(Drop)]
 pub enum RecoverFault<F> {
@@ -79,8 +88,8 @@ fn open_log<L: Log>(
     fingerprint: &[u8; 32],
     log: &mut L,
     machine: &mut Machine,
-) -> Result<u64, RecoverFault<L::Failure>>
-    ensures recovered { IfOk result (λ count. HasRecovered fingerprint.now L.content L.reliable L.may_leave log.old log.new machine.old machine.new count) }
+) -> Result<Recovered, RecoverFault<L::Failure>>
+    ensures recovered { IfOk result (HasRecovered fingerprint.now L.content L.reliable L.may_leave log.old log.new machine.old machine.new) }
     ensures fault { L.reliable → IfErr result (λ fault. IsFaultOf fingerprint.now L.content log.old log.new machine.old fault) }
     ensures any_moment { L.reliable → LeavesOnly L.moment L.left_since log.old log.new
         (λ c. L.may_leave log.old c ⊎ StandAlike fingerprint.now (L.content log.old) c) }
@@ -106,13 +115,16 @@ fn open_log<L: Log>(
     }
     let end = bytes.len() - tail.len();
     match cut_synced(log, end) {
-        Ok(()) => Ok(count),
+        Ok(()) => Ok(Recovered {
+            count,
+            cut: tail.len(),
+        }),
         Err(failure) => Err(RecoverFault::Failed(failure)),
     }
 }
 
 /// Opens the journal of a map, whatever a crash left of it: applies its batches to the machine of the mapfile, and cuts a torn tail
-/// off. It returns how many batches there are. All is read and judged before anything is written.
+/// off. It returns how many batches there are, and how long that tail was. All is read and judged before anything is written.
 ///
 /// After a fault the state of the machine is unspecified.
 pub fn recover<L: Log>(
@@ -120,9 +132,9 @@ pub fn recover<L: Log>(
     fingerprint: &[u8; 32],
     log: &mut L,
     machine: &mut Machine,
-) -> Result<u64, RecoverFault<L::Failure>>
-    ensures recovered { IfOk result (λ count. HasRecovered fingerprint.now L.content L.reliable L.may_leave log.old log.new machine.old machine.new count) }
-    ensures counted { IfOk result (λ count. machine.new.sequence ≡ machine.old.sequence + count) }
+) -> Result<Recovered, RecoverFault<L::Failure>>
+    ensures recovered { IfOk result (HasRecovered fingerprint.now L.content L.reliable L.may_leave log.old log.new machine.old machine.new) }
+    ensures counted { IfOk result (λ recovered. machine.new.sequence ≡ machine.old.sequence + recovered.count) }
     ensures fault { L.reliable → IfErr result (λ fault. IsFaultOf fingerprint.now L.content log.old log.new machine.old fault) }
 
     // A file that stands for accepted batches is opened, unless memory is refused or the log fails.
@@ -134,7 +146,7 @@ pub fn recover<L: Log>(
         (λ c. L.may_leave log.old c ⊎ StandAlike fingerprint.now (L.content log.old) c) }
 {
     match open_log(alloc, fingerprint, log, machine) {
-        Ok(count) => Ok(count),
+        Ok(recovered) => Ok(recovered),
         Err(fault) => Err(fault),
     }
 }

@@ -9,8 +9,8 @@
 #![tactic(auto)]
 
 use console::Console;
+use network::SocketPort;
 use program::{Ending, JournalFile, Program, SystemHost, read_arguments};
-use service::SocketPort;
 use std::io::{self, BufWriter};
 use streams::Flagged;
 

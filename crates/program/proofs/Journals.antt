@@ -1,5 +1,7 @@
 -- Why a journal isn't opened, without the log's own failure.
-use Rattle.std.proofs.Common.{◌≡◌, refl, ℕ, List, ◌++◌, Option, None, Some}
+use Rattle.std.proofs.lemmas.Bool.Decides.{nat_tests}
+use Rattle.std.proofs.Common.{arith, subst, sym, ◌≡◌, ◌≢◌, ◌&&◌, ◌==◌, refl, ℕ, zero, suc, Bool, true, false, not, List, ◌++◌, Option, None, Some}
+use Rattle.std.specs.Prelude.{MatchBool}
 use Rattle.journalfile.specs.Keeping.{keeps_of}
 use Rattle.journalfile.specs.Settled.{IsSettled}
 use Rattle.journalfile.specs.declared.writing.Journal.{Journal}
@@ -28,6 +30,14 @@ erased-is fingerprint content old new first (recover_fault.Damaged number) is = 
 erased-is fingerprint content old new first (recover_fault.Refused number) is = is
 erased-is fingerprint content old new first recover_fault.NoMemory is = is
 erased-is fingerprint content old new first (recover_fault.Failed failure) is = is
+
+-- what is told of a cut that is requested and isn't empty
+pub told : (requested : Bool) (cut : ℕ) (P Q : Type 0) → requested ≡ true → cut ≢ 0 → P → MatchBool (requested && not (cut == 0)) P Q
+told true zero P Q is some p = absurd (some refl)
+told true (suc n) P Q is some p =
+    let e : (suc n == 0) ≡ false = grind (arith, nat_tests) in
+    subst (λ (b : Bool). MatchBool (true && not b) P Q) (sym e) p
+told false cut P Q is some p = absurd (cc is)
 
 -- a keeper that keeps a journal's batches has them all
 module _ {L : Type 0} (view : JournalView L) (recognises : Journal L → Type 0) where

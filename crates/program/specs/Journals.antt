@@ -1,5 +1,5 @@
 -- The journal of a map that is served (docs/SERVICE.md, "Journal").
-use Rattle.std.specs.Prelude.{◌≡◌, ◌⊎◌, ℕ, List, [], ◌++◌, Option, None, Some, Err, codes}
+use Rattle.std.specs.Prelude.{◌≡◌, ◌⊎◌, ◌&&◌, ◌==◌, ◌+◌, ℕ, Bool, not, MatchBool, List, [], ◌++◌, length, Option, None, Some, Err, codes}
 use Rattle.std.specs.List.{flat_map}
 use Rattle.std.specs.Fmt.{decimal}
 use Rattle.sha2.specs.Sha256.{sha256}
@@ -10,6 +10,7 @@ use Rattle.journal.specs.Reading.{StandsFor}
 use Rattle.journal.specs.declared.header.HeaderFault.TheVariants as header_fault
 use Rattle.journalfile.specs.Recovery.{IsFaultOf}
 use Rattle.journalfile.specs.Settled.{IsSettled}
+use Rattle.journalfile.specs.declared.log.Log.{Ghosts as Log}
 use Rattle.journalfile.specs.declared.recovery.RecoverFault.{RecoverFault}
 use Rattle.journalfile.specs.declared.recovery.RecoverFault.TheVariants as recover_fault
 use Rattle.journalfile.specs.declared.writing.Journal.{Journal}
@@ -29,6 +30,10 @@ pub record JournalView (L : Type 0) : Type 1 where
   pub reliable : Type 0
   pub content : L → List ℕ
   pub may_leave : L → List ℕ → Type 0
+
+-- those of a host, by the logs that it gives and what these say
+abbrev pub journal_view : {H L F : Type 0} → (H → List ℕ → L → Type 0) → Log L F → H → JournalView L
+journal_view journal log h = record { gives = journal h; reliable = log.reliable; content = log.content; may_leave = log.may_leave }
 
 -- a journal has these batches, where its log is reliable; without a journal nothing is required
 abbrev pub KeepsAll : {L : Type 0} → JournalView L → Option (Journal L) → List (List ℕ) → Type 0
@@ -101,8 +106,8 @@ is_unopened other = ⊥
 
 module _ {L : Type 0} (view : JournalView L) (path fingerprint : List ℕ) (first : State) where
   -- a journal was opened on a log of the host: the machine is in the state after some batches, and their number is the journal's count. Where the log
-  -- is reliable, its bytes stood for these batches, and it keeps them
-  pub record IsOpened (last : State) (journal : Journal L) : Type 0 where
+  -- is reliable, its bytes stood for these batches, and it keeps them; so many bytes of a torn tail were cut off
+  pub record IsOpened (last : State) (journal : Journal L) (cut : ℕ) : Type 0 where
     pub log : L
     pub gives : view.gives path log
     pub of_map : journal.fingerprint ≡ fingerprint
@@ -110,12 +115,21 @@ module _ {L : Type 0} (view : JournalView L) (path fingerprint : List ℕ) (firs
     pub after : after accepted first batches ≡ Some last
     pub stood : view.reliable → StandsFor fingerprint (view.content log) batches
     pub settled : view.reliable → IsSettled view.content view.may_leave journal batches
+    pub shorter : view.reliable → length (view.content log) ≡ length (view.content journal.log) + cut
 
   -- why none was opened: the host gave no log, or the bytes of the log have a fault
   abbrev pub IsUnopened : JournalFault → Type 0
   IsUnopened why =
       is_unopened why
       ⊎ ((log new : L) × view.gives path log × (cause : RecoverFault (Unit {0})) × (why ≡ fault_of cause) × (view.reliable → IsFaultOf fingerprint view.content log new first cause))
+
+-- the line on a torn tail that was cut off, with the path of the journal and the length of the tail
+abbrev pub cut_line : List ℕ → ℕ → List ℕ
+cut_line path cut = codes "warning journal " ++ (path ++ (codes ": a torn record of " ++ (decimal cut ++ codes " bytes was cut off\n")))
+
+-- it was reported, where that is requested and there was such a tail
+abbrev pub ReportsCut : Bool → List ℕ → ℕ → WriterState → WriterState → Type 0
+ReportsCut requested path cut old new = MatchBool (requested && not (cut == 0)) (IsReported old new (cut_line path cut)) (new ≡ old)
 
 -- where the journal of a service failed, that is reported at its end
 abbrev pub ReportsEnd : List ℕ → Outcome → WriterState → WriterState → Type 0

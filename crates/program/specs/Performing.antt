@@ -1,5 +1,5 @@
 -- The effects of the program for a command on a host (docs/SERVICE.md, "The program").
-use Rattle.std.specs.Prelude.{◌≡◌, ◌⊎◌, ◌++◌, ℕ, Bool, List, [], Option, None, Some, IsSome, option_map, Err}
+use Rattle.std.specs.Prelude.{◌≡◌, ◌⊎◌, ◌||◌, ◌++◌, ℕ, Bool, List, [], Option, None, Some, IsSome, option_map, Err}
 use Rattle.std.specs.Io.KnownBytes.{Keeps}
 use Rattle.commandline.specs.declared.subcommand.Command.{Command}
 use Rattle.commandline.specs.declared.subcommand.Service.{Service}
@@ -12,9 +12,12 @@ use Rattle.journalfile.specs.declared.writing.Journal.{Journal}
 use Rattle.sharing.specs.Sharing.{after}
 use Rattle.mapdefs.specs.declared.map.MapFields.{MapFields}
 use Rattle.mapparse.specs.declared.files.FileBytes.{FileBytes}
-use Rattle.program.specs.Journals.{JournalView, KeepsAll, IsOpened, IsUnopened, ReportsEnd, failure_of, journal_fault, map_fingerprint}
+use Rattle.journalfile.specs.declared.log.Log.{Ghosts as Log}
+use Rattle.program.specs.declared.host.Files.{Ghosts as Files}
+use Rattle.network.specs.declared.port.Port.{Ghosts as Port}
+use Rattle.program.specs.Journals.{JournalView, journal_view, KeepsAll, IsOpened, IsUnopened, ReportsCut, ReportsEnd, failure_of, journal_fault, map_fingerprint}
 use Rattle.program.specs.declared.keeping.JournalFault.{JournalFault}
-use Rattle.service.specs.Serving.{HasAnnounced, IsUnserved}
+use Rattle.network.specs.Announcing.{HasAnnounced, IsUnserved}
 use Rattle.subcommands.specs.Folder.{Giving, IsParent}
 use Rattle.subcommands.specs.Mapfiles.{HasReadMapfile, GivesNoMap, ReportsWarnings, ChecksTo, RunsTo}
 use Rattle.subcommands.specs.Session.{PlaysTo, opened}
@@ -28,6 +31,10 @@ pub record HostView (P L : Type 0) : Type 1 where
   pub listens : ℕ → P → Type 0
   pub address : P → Option (List ℕ)
   pub journal : JournalView L
+
+-- those of a host, by the ports and logs that it gives, and what its files, ports and logs say
+abbrev pub host_view : {H F P L C G : Type 0} → Files H F → (H → ℕ → P → Type 0) → (H → List ℕ → L → Type 0) → Port P C → Log L G → H → HostView P L
+host_view files listens journal port log h = record { file = files.file h; listens = listens h; address = port.address; journal = journal_view journal log h }
 
 -- a machine was served as it begins, at the two ports that were listened on, and this keeper kept its batches; the program ended as the service did.
 -- The addresses of the ports were written once, that of clients first. The machine accepts all batches that were accepted, published or held, one after
@@ -60,13 +67,17 @@ pub record Written : Type 0 where
   pub errors : WriterState
   pub later_errors : WriterState
 
--- a map was served in the state after the batches of its journal, which kept all that followed; where it failed, that was reported
-pub record IsJournalServed {P L : Type 0} (host : HostView P L) (path fingerprint : List ℕ) (map : MapFields) (service : Service) (ending : EndingValue P L) (written : Written) : Type 0 where
+-- a map was served in the state after the batches of its journal, which kept all that followed. That a torn tail was cut off is reported, with
+-- `--explain` or `--log`; where the journal failed, that was reported
+pub record IsJournalServed {P L : Type 0} (host : HostView P L) (explains : Bool) (path fingerprint : List ℕ) (map : MapFields) (service : Service) (ending : EndingValue P L) (written : Written) : Type 0 where
   pub machine : State
   pub journal : Journal L
-  pub is_opened : IsOpened host.journal path fingerprint (opened map) machine journal
+  pub cut : ℕ
+  pub is_opened : IsOpened host.journal path fingerprint (opened map) machine journal cut
   pub serves : ServesMachine host machine (Some journal) service ending written.output written.later_output
-  pub reported : ReportsEnd path ending.outcome written.errors written.later_errors
+  pub between : WriterState
+  pub told : ReportsCut (explains || service.logs) path cut written.errors between
+  pub reported : ReportsEnd path ending.outcome between written.later_errors
 
 -- nothing was served, since the journal wasn't opened, which was reported
 pub record IsWithoutJournal {P L : Type 0} (host : HostView P L) (path fingerprint : List ℕ) (map : MapFields) (ending : EndingValue P L) (written : Written) : Type 0 where
@@ -77,11 +88,11 @@ pub record IsWithoutJournal {P L : Type 0} (host : HostView P L) (path fingerpri
   pub reported : IsReported written.errors written.later_errors (journal_fault path why)
 
 -- a map was served: as it begins, or, with the journal of a path, after its batches
-abbrev pub ServesMap : {P L : Type 0} → HostView P L → Option (List ℕ) → List ℕ → MapFields → Service → EndingValue P L → Written → Type 0
-ServesMap host None fingerprint map service ending written =
+abbrev pub ServesMap : {P L : Type 0} → HostView P L → Bool → Option (List ℕ) → List ℕ → MapFields → Service → EndingValue P L → Written → Type 0
+ServesMap host explains None fingerprint map service ending written =
     ServesMachine host (opened map) None service ending written.output written.later_output × (written.later_errors ≡ written.errors)
-ServesMap host (Some path) fingerprint map service ending written =
-    IsWithoutJournal host path fingerprint map ending written ⊎ IsJournalServed host path fingerprint map service ending written
+ServesMap host explains (Some path) fingerprint map service ending written =
+    IsWithoutJournal host path fingerprint map ending written ⊎ IsJournalServed host explains path fingerprint map service ending written
 
 -- the warnings on the map of a mapfile were reported, where `explains` says so, and the map was served
 pub record IsMapServed {P L : Type 0} (host : HostView P L) (gives : Giving) (explains : Bool) (journal : Option (List ℕ)) (service : Service) (ending : EndingValue P L) (name : List ℕ) (before after : Option (List ℕ)) (old new : ConsoleState) : Type 0 where
@@ -91,7 +102,7 @@ pub record IsMapServed {P L : Type 0} (host : HostView P L) (gives : Giving) (ex
   pub read : HasReadMapfile gives before after mapfile files map
   pub errors : WriterState
   pub warnings : ReportsWarnings explains name map old.errors errors
-  pub serves_map : ServesMap host journal (map_fingerprint mapfile files) map service ending
+  pub serves_map : ServesMap host explains journal (map_fingerprint mapfile files) map service ending
       (record { output = old.output; later_output = new.output; errors = errors; later_errors = new.errors })
 
 -- no map was served, since the mapfile gave none

@@ -1,7 +1,7 @@
 ghost use Rattle.std.specs.Prelude.{◌≡◌, map, IfOk, string_bytes, Ok};
 ghost use Rattle.std.specs.Result.{result_map_both};
 ghost use Rattle.program.specs.Answering.{Answers};
-ghost use Rattle.program.specs.Performing.{HostView};
+ghost use Rattle.program.specs.Performing.{host_view};
 
 use crate::ending::Ending;
 use crate::explaining::{explain_end, explains_end};
@@ -9,7 +9,8 @@ use crate::host::{Files, Host};
 use crate::program::Program;
 use commandline::{WordsFault, command};
 use console::{Console, Failure, Terminal, report};
-use service::{Network, Port, Runtime};
+use journalfile::Log;
+use network::{Network, Port, Runtime};
 use std::alloc::{AllocError, Global};
 use streams::{Sink, Source};
 use thiserror::Error;
@@ -43,8 +44,9 @@ impl<R: Runtime, H: Host> Program<'_, R, H> {
         texts: &[&str],
         console: &mut Console<I, O, E>,
     ) -> Ending<H::Port, H::Log>
-        ensures { Answers (record { file = H.Files.file self.now.host.now; listens = H.listens self.now.host.now; address = H.Port.address; journal = record { gives = H.journal self.now.host.now; reliable = H.Log.reliable; content = H.Log.content; may_leave = H.Log.may_leave } })
-            (Ok (map (λ text. text.now) texts.entry.now)) result (⟦<Console<I, O, E> as Terminal>⟧.streams console.old) (⟦<Console<I, O, E> as Terminal>⟧.streams console.new) }
+        ensures { Answers (host_view ⟦<H as Files>⟧ H.listens H.journal ⟦<H::Port as Port<H::Connection>>⟧ ⟦<H::Log as Log>⟧ self.now.host.now)
+            (Ok (map (λ text. text.now) texts.entry.now)) result (⟦<Console<I, O, E> as Terminal>⟧.streams console.old)
+            (⟦<Console<I, O, E> as Terminal>⟧.streams console.new) }
     {
         match command(self.rt.alloc(), texts) {
             Ok(command) => {
@@ -66,8 +68,9 @@ impl<R: Runtime, H: Host> Program<'_, R, H> {
         arguments: &[String],
         console: &mut Console<I, O, E>,
     ) -> Ending<H::Port, H::Log>
-        ensures { Answers (record { file = H.Files.file self.now.host.now; listens = H.listens self.now.host.now; address = H.Port.address; journal = record { gives = H.journal self.now.host.now; reliable = H.Log.reliable; content = H.Log.content; may_leave = H.Log.may_leave } })
-            (Ok (map string_bytes arguments.now)) result (⟦<Console<I, O, E> as Terminal>⟧.streams console.old) (⟦<Console<I, O, E> as Terminal>⟧.streams console.new) }
+        ensures { Answers (host_view ⟦<H as Files>⟧ H.listens H.journal ⟦<H::Port as Port<H::Connection>>⟧ ⟦<H::Log as Log>⟧ self.now.host.now)
+            (Ok (map string_bytes arguments.now)) result (⟦<Console<I, O, E> as Terminal>⟧.streams console.old)
+            (⟦<Console<I, O, E> as Terminal>⟧.streams console.new) }
     {
         match texts_of(self.rt.alloc(), arguments) {
             Ok(texts) => self.answer_texts(&texts, console),
@@ -81,8 +84,9 @@ impl<R: Runtime, H: Host> Program<'_, R, H> {
         arguments: Result<Vec<String>, ArgumentsUnread>,
         console: &mut Console<I, O, E>,
     ) -> Ending<H::Port, H::Log>
-        ensures answers { Answers (record { file = H.Files.file self.now.host.now; listens = H.listens self.now.host.now; address = H.Port.address; journal = record { gives = H.journal self.now.host.now; reliable = H.Log.reliable; content = H.Log.content; may_leave = H.Log.may_leave } })
-            (result_map_both (λ w. map string_bytes w.items) (λ e. e) arguments) result (⟦<Console<I, O, E> as Terminal>⟧.streams console.old) (⟦<Console<I, O, E> as Terminal>⟧.streams console.new) }
+        ensures answers { Answers (host_view ⟦<H as Files>⟧ H.listens H.journal ⟦<H::Port as Port<H::Connection>>⟧ ⟦<H::Log as Log>⟧ self.now.host.now)
+            (result_map_both (λ w. map string_bytes w.items) (λ e. e) arguments) result (⟦<Console<I, O, E> as Terminal>⟧.streams console.old)
+            (⟦<Console<I, O, E> as Terminal>⟧.streams console.new) }
     {
         match arguments {
             Ok(arguments) => self.answer_strings(&arguments, console),

@@ -41,7 +41,8 @@ impl<'a, H: Files> HostFile<'a, H> {
     // Reads the next bytes of a file, which is opened first where it isn't open.
     fn read_on(&mut self, room: &mut [u8]) -> io::Result<usize>
         ensures bound { ReadsAtMost result room.new }
-        ensures bytes { ReadConsumes (left_of (H.file self.old.host.now self.old.path.now) H.File.remaining self.old.file) (left_of (H.file self.new.host.now self.new.path.now) H.File.remaining self.new.file) result room.new }
+        ensures bytes { ReadConsumes (left_of (H.file self.old.host.now self.old.path.now) H.File.remaining self.old.file)
+            (left_of (H.file self.new.host.now self.new.path.now) H.File.remaining self.new.file) result room.new }
     {
         if let Some(file) = &mut self.file {
             return file.read(room);
@@ -58,7 +59,8 @@ impl<H: Files> Read for HostFile<'_, H> {
 
     fn read(&mut self, room: &mut [u8]) -> io::Result<usize>
         ensures bound { ReadsAtMost result room.new }
-        ensures bytes { ReadConsumes (left_of (H.file self.old.host.now self.old.path.now) H.File.remaining self.old.file) (left_of (H.file self.new.host.now self.new.path.now) H.File.remaining self.new.file) result room.new }
+        ensures bytes { ReadConsumes (left_of (H.file self.old.host.now self.old.path.now) H.File.remaining self.old.file)
+            (left_of (H.file self.new.host.now self.new.path.now) H.File.remaining self.new.file) result room.new }
         ensures cause { IfErr result (λ e. self.new.cause ≡ cause_of (error_kind e)) }
     {
         match self.read_on(room) {

@@ -3,7 +3,7 @@ ghost use Rattle.journalfile.specs.Settled.{GarblesNoRecord};
 
 use console::ListenCause;
 use journalfile::Log;
-use service::Network;
+use network::Network;
 use std::io::{self, Read};
 use thiserror::Error;
 

@@ -6,16 +6,16 @@ ghost use Rattle.console.specs.Console.{IsReported};
 ghost use Rattle.journal.specs.Fingerprint.{file_message};
 ghost use Rattle.journalfile.specs.Settled.{GarblesNoRecord};
 ghost use Rattle.subcommands.specs.Mapfiles.{TouchesNeither};
-ghost use Rattle.program.specs.Journals.{IsOpened, IsUnopened, ReportsEnd, failure_of, fault_of, fault_message, given_message, is_unopened, journal_fault, log_message, map_fingerprint, number_text};
+ghost use Rattle.program.specs.Journals.{IsOpened, IsUnopened, ReportsCut, ReportsEnd, cut_line, failure_of, fault_of, fault_message, given_message, is_unopened, journal_fault, journal_view, log_message, map_fingerprint, number_text};
 
 use crate::host::{Files, Host, OpenFault};
 use console::{Failure, Writes, report};
 use itoa::Buffer;
 use journal::{HeaderFault, UsedFile, fingerprint_of, push_header};
-use journalfile::{Journal, Log, RecoverFault, recover};
+use journalfile::{Journal, Log, RecoverFault, Recovered, recover};
 use mapmachine::Machine;
 use mapparse::Files as MapFiles;
-use service::Network;
+use network::Network;
 use std::alloc::{AllocError, Global};
 use streams::Sink;
 use subcommands::ReadMap;
@@ -94,7 +94,8 @@ fn log_message(cause: OpenFault) -> &'static [u8]
 
 // Reports a fault, in parts.
 fn report_parts<'a, E: Sink>(errors: &mut E, path: &'a [u8], message: &'a [u8], number: &'a [u8])
-    ensures { IsReported (⟦<E as Writes>⟧.state errors.old) (⟦<E as Writes>⟧.state errors.new) (codes "fault journal " ++ (path.now ++ (codes ": " ++ (message.now ++ (number.now ++ codes "\n"))))) }
+    ensures { IsReported (⟦<E as Writes>⟧.state errors.old) (⟦<E as Writes>⟧.state errors.new)
+        (codes "fault journal " ++ (path.now ++ (codes ": " ++ (message.now ++ (number.now ++ codes "\n"))))) }
 {
     report(
         errors,
@@ -113,6 +114,41 @@ pub(crate) fn report_journal_fault<E: Sink>(errors: &mut E, path: &str, fault: J
             report_parts(errors, path.as_bytes(), fault.message(), number);
         }
         None => report_parts(errors, path.as_bytes(), fault.message(), b""),
+    }
+}
+
+// Reports that a torn tail was cut off a journal, in parts.
+fn report_cut_parts<'a, E: Sink>(errors: &mut E, path: &'a [u8], length: &'a [u8])
+    ensures { IsReported (⟦<E as Writes>⟧.state errors.old) (⟦<E as Writes>⟧.state errors.new)
+        (codes "warning journal " ++ (path.now ++ (codes ": a torn record of " ++ (length.now ++ codes " bytes was cut off\n")))) }
+{
+    report(
+        errors,
+        &[
+            b"warning journal ",
+            path,
+            b": a torn record of ",
+            length,
+            b" bytes was cut off\n",
+        ],
+    );
+}
+
+// Reports that a torn tail of so many bytes was cut off a journal.
+fn report_cut_line<E: Sink>(errors: &mut E, path: &str, cut: u64)
+    ensures { IsReported (⟦<E as Writes>⟧.state errors.old) (⟦<E as Writes>⟧.state errors.new) (cut_line path.now cut) }
+{
+    let mut digits = Buffer::new();
+    let length = digits.format(cut).as_bytes();
+    report_cut_parts(errors, path.as_bytes(), length);
+}
+
+/// Reports that a torn tail was cut off a journal, with its length, where that is requested and there was one.
+pub(crate) fn report_cut<E: Sink>(errors: &mut E, path: &str, requested: bool, cut: usize)
+    ensures { ReportsCut requested path.now cut (⟦<E as Writes>⟧.state errors.old) (⟦<E as Writes>⟧.state errors.new) }
+{
+    if requested && cut != 0 {
+        report_cut_line(errors, path, cut as u64);
     }
 }
 
@@ -198,6 +234,15 @@ pub(crate) struct JournalPlace<'a, H> {
     pub path: &'a str,
 }
 
+/// A journal that was opened.
+#[derive(Drop)]
+pub(crate) struct OpenedJournal<L> {
+    /// The journal.
+    pub journal: Journal<L>,
+    /// How many bytes of a torn tail were cut off.
+    pub cut: usize,
+}
+
 /// Opens the journal of a map and brings the map's machine to the state after its batches. Where there is no journal,
 /// one is made.
 pub(crate) fn open_journal<H: Host>(
@@ -205,18 +250,23 @@ pub(crate) fn open_journal<H: Host>(
     place: JournalPlace<'_, H>,
     fingerprint: [u8; 32],
     machine: &mut Machine,
-) -> Result<Journal<H::Log>, JournalFault>
-    ensures opened { IfOk result (λ journal. IsOpened (record { gives = H.journal place.entry.host.now; reliable = H.Log.reliable; content = H.Log.content; may_leave = H.Log.may_leave }) place.entry.path.now fingerprint machine.old machine.new journal) }
+) -> Result<OpenedJournal<H::Log>, JournalFault>
+    ensures opened { IfOk result (λ opened. IsOpened (journal_view H.journal ⟦<H::Log as Log>⟧ place.entry.host.now)
+        place.entry.path.now fingerprint machine.old machine.new opened.journal opened.cut) }
     ensures recognised { OnOk result (H.Log.reliable → (fingerprint : List ℕ) → GarblesNoRecord H.Log.garbled fingerprint) }
-    ensures fault { IfErr result (λ fault. IsUnopened (record { gives = H.journal place.entry.host.now; reliable = H.Log.reliable; content = H.Log.content; may_leave = H.Log.may_leave }) place.entry.path.now fingerprint machine.old fault) }
+    ensures fault { IfErr result (λ fault. IsUnopened
+        (journal_view H.journal ⟦<H::Log as Log>⟧ place.entry.host.now) place.entry.path.now fingerprint machine.old fault) }
 {
     let mut log = log_of(alloc, place.host, place.path, &fingerprint)?;
     match recover(alloc, &fingerprint, &mut log, machine) {
-        Ok(count) => Ok(Journal {
-            alloc,
-            log,
-            fingerprint,
-            count,
+        Ok(Recovered { count, cut }) => Ok(OpenedJournal {
+            journal: Journal {
+                alloc,
+                log,
+                fingerprint,
+                count,
+            },
+            cut,
         }),
         Err(fault) => Err(fault_of(fault)),
     }

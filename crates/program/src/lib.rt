@@ -27,4 +27,5 @@ pub use host::{Files, Host, ListenFailed, OpenFault};
 pub use journal_file::JournalFile;
 pub use keeping::JournalFault;
 pub use program::Program;
+pub use serving::JournaledService;
 pub use system::{SystemHost, read_arguments};

@@ -3,7 +3,7 @@ ghost use Rattle.commandline.specs.declared.subcommand.Command.TheVariants.{Sess
 ghost use Rattle.console.specs.Console.{Leaves};
 ghost use Rattle.program.specs.Hosts.{gives_in, left_of};
 ghost use Rattle.program.specs.Journals.{map_fingerprint};
-ghost use Rattle.program.specs.Performing.{HostView, Left, Performs, ServesMap, ServesTo};
+ghost use Rattle.program.specs.Performing.{Left, host_view, Performs, ServesMap, ServesTo};
 ghost use Rattle.subcommands.specs.Folder.{IsParent};
 ghost use Rattle.subcommands.specs.Mapfiles.{ChecksTo, RunsTo};
 ghost use Rattle.subcommands.specs.Reports.{ReadFile};
@@ -13,11 +13,22 @@ use crate::ending::Ending;
 use crate::files::{HostFile, HostFolder};
 use crate::host::{Files, Host};
 use crate::program::Program;
+use crate::serving::JournaledService;
 use commandline::{Command, Service};
 use console::{Console, Failure, Terminal, Writes};
-use service::{Network, Port, Runtime};
+use journalfile::Log;
+use network::{Network, Port, Runtime};
 use streams::{Flagged, Sink, Source};
 use subcommands::{Job, NamedFile, ReadMap, check, read_map, run, session};
+
+// How a map is to be served, and the path of its journal, if batches are to be kept.
+#[derive(Clone, Copy)]
+struct RequestedService<'a> {
+    service: Service,
+    journal: Option<&'a str>,
+    // What is found is explained.
+    explains: bool,
+}
 
 // The file of a path, whose name is that path.
 fn named_file<'a, H: Files>(host: &'a H, path: &'a str) -> NamedFile<'a, Flagged<HostFile<'a, H>>>
@@ -41,7 +52,8 @@ impl<R: Runtime, H: Host> Program<'_, R, H> {
         console: &mut Console<I, O, E>,
     ) -> Result<(), Failure>
         ensures checks { (parent : List ℕ) × IsParent file.now parent × (after : Left) × (cause : UnreadCause)
-            × ChecksTo (gives_in (H.Files.file self.now.host.now) parent) explains result (record { name = file.now; cause = cause }) (H.Files.file self.now.host.now file.now) after
+            × ChecksTo (gives_in (H.Files.file self.now.host.now) parent) explains result (record { name = file.now; cause = cause })
+            (H.Files.file self.now.host.now file.now) after
             (⟦<Console<I, O, E> as Terminal>⟧.streams console.old) (⟦<Console<I, O, E> as Terminal>⟧.streams console.new) }
         ensures input { console.new.input ≡ console.old.input }
         ensures leaves { Leaves result (⟦<Console<I, O, E> as Terminal>⟧.streams console.old) (⟦<Console<I, O, E> as Terminal>⟧.streams console.new) }
@@ -63,9 +75,16 @@ impl<R: Runtime, H: Host> Program<'_, R, H> {
         explains: bool,
         console: &mut Console<I, O, E>,
     ) -> Result<(), Failure>
-        ensures runs { (parent : List ℕ) × IsParent file.now parent × (after : Left) × (script_after : Left) × (cause : UnreadCause) × (script_cause : UnreadCause)
-            × RunsTo (gives_in (H.Files.file self.now.host.now) parent) explains result (record { name = file.now; cause = cause }) (record { name = script.now; cause = script_cause })
-            (record { mapfile_before = H.Files.file self.now.host.now file.now; mapfile_after = after; script_before = H.Files.file self.now.host.now script.now; script_after = script_after })
+        ensures runs { (parent : List ℕ) × IsParent file.now parent × (after : Left) × (script_after : Left) × (cause : UnreadCause)
+            × (script_cause : UnreadCause)
+            × RunsTo (gives_in (H.Files.file self.now.host.now) parent) explains result (record { name = file.now; cause = cause })
+            (record { name = script.now; cause = script_cause })
+            (record {
+              mapfile_before = H.Files.file self.now.host.now file.now;
+              mapfile_after = after;
+              script_before = H.Files.file self.now.host.now script.now;
+              script_after = script_after;
+            })
             (⟦<Console<I, O, E> as Terminal>⟧.streams console.old) (⟦<Console<I, O, E> as Terminal>⟧.streams console.new) }
         ensures input { console.new.input ≡ console.old.input }
         ensures leaves { Leaves result (⟦<Console<I, O, E> as Terminal>⟧.streams console.old) (⟦<Console<I, O, E> as Terminal>⟧.streams console.new) }
@@ -84,12 +103,13 @@ impl<R: Runtime, H: Host> Program<'_, R, H> {
     fn serve<I: Source, O: Sink, E: Sink>(
         &self,
         file: &str,
-        explains: bool,
-        asked: (Service, Option<&str>),
+        requested: RequestedService<'_>,
         console: &mut Console<I, O, E>,
     ) -> Ending<H::Port, H::Log>
         ensures serves { (parent : List ℕ) × IsParent file.now parent × (after : Left)
-            × ServesTo (record { file = H.Files.file self.now.host.now; listens = H.listens self.now.host.now; address = H.Port.address; journal = record { gives = H.journal self.now.host.now; reliable = H.Log.reliable; content = H.Log.content; may_leave = H.Log.may_leave } }) (gives_in (H.Files.file self.now.host.now) parent) explains (option_map (λ path. path.now) asked.entry.1) asked.entry.0 result file.now (H.Files.file self.now.host.now file.now) after
+            × ServesTo (host_view ⟦<H as Files>⟧ H.listens H.journal ⟦<H::Port as Port<H::Connection>>⟧ ⟦<H::Log as Log>⟧ self.now.host.now)
+            (gives_in (H.Files.file self.now.host.now) parent) requested.entry.explains
+            (option_map (λ path. path.now) requested.entry.journal) requested.entry.service result file.now (H.Files.file self.now.host.now file.now) after
             (⟦<Console<I, O, E> as Terminal>⟧.streams console.old) (⟦<Console<I, O, E> as Terminal>⟧.streams console.new) }
         ensures input { console.new.input ≡ console.old.input }
         ensures leaves { Leaves result.outcome (⟦<Console<I, O, E> as Terminal>⟧.streams console.old) (⟦<Console<I, O, E> as Terminal>⟧.streams console.new) }
@@ -98,10 +118,10 @@ impl<R: Runtime, H: Host> Program<'_, R, H> {
         let mut job = Job {
             folder: &folder,
             mapfile: named_file(self.host, file),
-            explains,
+            explains: requested.explains,
         };
         match read_map(self.rt.alloc(), &mut job, &mut console.errors) {
-            Ok(read) => self.serve_read(read, asked, console),
+            Ok(read) => self.serve_read(read, requested, console),
             Err(failure) => Ending::after(Err(failure)),
         }
     }
@@ -110,17 +130,34 @@ impl<R: Runtime, H: Host> Program<'_, R, H> {
     fn serve_read<I: Source, O: Sink, E: Sink>(
         &self,
         read: ReadMap,
-        asked: (Service, Option<&str>),
+        requested: RequestedService<'_>,
         console: &mut Console<I, O, E>,
     ) -> Ending<H::Port, H::Log>
-        ensures serves { ServesMap (record { file = H.Files.file self.now.host.now; listens = H.listens self.now.host.now; address = H.Port.address; journal = record { gives = H.journal self.now.host.now; reliable = H.Log.reliable; content = H.Log.content; may_leave = H.Log.may_leave } }) (option_map (λ path. path.now) asked.entry.1) (map_fingerprint read.source.items read.files) read.map asked.entry.0 result
-            (record { output = ⟦<O as Writes>⟧.state console.old.output; later_output = ⟦<O as Writes>⟧.state console.new.output; errors = ⟦<E as Writes>⟧.state console.old.errors; later_errors = ⟦<E as Writes>⟧.state console.new.errors }) }
+        ensures serves { ServesMap (host_view ⟦<H as Files>⟧ H.listens H.journal ⟦<H::Port as Port<H::Connection>>⟧ ⟦<H::Log as Log>⟧ self.now.host.now)
+            requested.entry.explains (option_map (λ path. path.now) requested.entry.journal) (map_fingerprint read.source.items read.files) read.map requested.entry.service result
+            (record {
+              output = ⟦<O as Writes>⟧.state console.old.output;
+              later_output = ⟦<O as Writes>⟧.state console.new.output;
+              errors = ⟦<E as Writes>⟧.state console.old.errors;
+              later_errors = ⟦<E as Writes>⟧.state console.new.errors;
+            }) }
         ensures input { console.new.input ≡ console.old.input }
         ensures leaves { Leaves result.outcome (⟦<Console<I, O, E> as Terminal>⟧.streams console.old) (⟦<Console<I, O, E> as Terminal>⟧.streams console.new) }
     {
-        let (service, journal) = asked;
+        let RequestedService {
+            service,
+            journal,
+            explains,
+        } = requested;
         match journal {
-            Some(path) => self.serve_kept(read, (service, path), console),
+            Some(path) => {
+                let journaled = JournaledService {
+                    service,
+                    path,
+                    explains,
+                };
+                self.serve_kept(read, journaled, console)
+            }
             None => self.serve_map(read.map, service, &mut console.output),
         }
     }
@@ -131,7 +168,8 @@ impl<R: Runtime, H: Host> Program<'_, R, H> {
         command: Command,
         console: &mut Console<I, O, E>,
     ) -> Ending<H::Port, H::Log>
-        ensures performs { Performs (record { file = H.Files.file self.now.host.now; listens = H.listens self.now.host.now; address = H.Port.address; journal = record { gives = H.journal self.now.host.now; reliable = H.Log.reliable; content = H.Log.content; may_leave = H.Log.may_leave } }) command.entry result
+        ensures performs { Performs (host_view ⟦<H as Files>⟧ H.listens H.journal ⟦<H::Port as Port<H::Connection>>⟧
+            ⟦<H::Log as Log>⟧ self.now.host.now) command.entry result
             (⟦<Console<I, O, E> as Terminal>⟧.streams console.old) (⟦<Console<I, O, E> as Terminal>⟧.streams console.new) }
         ensures input { command.entry ≢ Session → console.new.input ≡ console.old.input }
         ensures leaves { Leaves result.outcome (⟦<Console<I, O, E> as Terminal>⟧.streams console.old) (⟦<Console<I, O, E> as Terminal>⟧.streams console.new) }
@@ -152,7 +190,14 @@ impl<R: Runtime, H: Host> Program<'_, R, H> {
                 explains,
                 service,
                 journal,
-            } => self.serve(file, explains, (service, journal), console),
+            } => {
+                let requested = RequestedService {
+                    service,
+                    journal,
+                    explains,
+                };
+                self.serve(file, requested, console)
+            }
         }
     }
 }

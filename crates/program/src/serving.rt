@@ -1,25 +1,53 @@
-ghost use Rattle.std.specs.Prelude.{◌≡◌, ℕ, List, IfErr, IfOk, IfSome, Some, None, is_some, true, false, vec_len};
+ghost use Rattle.std.specs.Prelude.{◌≡◌, ◌||◌, ℕ, List, IfErr, IfOk, IfSome, Some, None, is_some, true, false, vec_len};
 ghost use Rattle.console.specs.Console.{LeavesOutput, is_input_failed};
-ghost use Rattle.program.specs.Journals.{IsOpened, IsUnopened, map_fingerprint};
-ghost use Rattle.program.specs.Performing.{HostView, ServesMachine, ServesMap};
+ghost use Rattle.program.specs.Journals.{IsOpened, IsUnopened, journal_view, map_fingerprint};
+ghost use Rattle.program.specs.Performing.{ServesMachine, ServesMap, host_view};
 ghost use Rattle.subcommands.specs.Session.{opened};
-ghost use Rattle.service.specs.Serving.{is_service_failure};
+ghost use Rattle.network.specs.Announcing.{is_service_failure};
 
 use crate::ending::Ending;
 use crate::host::{Files, Host, ListenFailed, OpenFault};
 use crate::keeping::{
-    JournalFault, JournalPlace, fingerprint_of_map, open_journal, report_end, report_journal_fault,
+    JournalFault, JournalPlace, fingerprint_of_map, open_journal, report_cut, report_end,
+    report_journal_fault,
 };
 use crate::program::Program;
 use commandline::Service;
 use console::{Console, Failure, Writes};
-use journalfile::{Journal, Keeps};
+use journalfile::{Journal, Keeps, Log};
 use mapdefs::Map;
 use mapmachine::Machine;
-use service::{Kept, Network, Port, PortFor, Ports, Runtime, Until, serve_by_threads};
+use network::{Network, Port, PortFor, Ports, Runtime, Until};
+use service::{Kept, serve_by_threads};
 use std::alloc::Global;
 use streams::Sink;
 use subcommands::ReadMap;
+
+/// How a map is to be served whose batches are kept, and the path of their journal.
+#[derive(Clone, Copy)]
+pub struct JournaledService<'a> {
+    /// The options.
+    pub service: Service,
+    /// The path.
+    pub path: &'a str,
+    /// What is found is explained.
+    pub explains: bool,
+}
+
+// Whether a cut of the journal is told: what is found is explained, or a log is kept.
+fn is_told(explains: bool, service: Service) -> bool
+    ensures { result ≡ (explains || service.logs) }
+{
+    explains || service.logs
+}
+
+// A map and its journal that were opened.
+#[derive(Drop)]
+struct OpenedMap<L> {
+    kept: Kept<Option<Journal<L>>>,
+    // How many bytes of a torn tail were cut off the journal.
+    cut: usize,
+}
 
 // A port of a host by its number.
 fn listen_on<H: Host>(host: &H, port: u16) -> Result<H::Port, Failure>
@@ -106,7 +134,8 @@ impl<R: Runtime, H: Host> Program<'_, R, H> {
         output: &mut O,
     ) -> Ending<H::Port, H::Log>
         requires ready { (batches : List (List ℕ)) × ⟦<Option<Journal<H::Log>> as Keeps>⟧.keeps kept.keeper batches }
-        ensures serves { ServesMachine (record { file = H.Files.file self.now.host.now; listens = H.listens self.now.host.now; address = H.Port.address; journal = record { gives = H.journal self.now.host.now; reliable = H.Log.reliable; content = H.Log.content; may_leave = H.Log.may_leave } }) kept.machine kept.keeper service result
+        ensures serves { ServesMachine (host_view ⟦<H as Files>⟧ H.listens H.journal ⟦<H::Port as Port<H::Connection>>⟧
+            ⟦<H::Log as Log>⟧ self.now.host.now) kept.machine kept.keeper service result
             (⟦<O as Writes>⟧.state output.old) (⟦<O as Writes>⟧.state output.new) }
         ensures leaves { LeavesOutput result.outcome (⟦<O as Writes>⟧.state output.old) (⟦<O as Writes>⟧.state output.new) }
         ensures reads { is_input_failed result.outcome ≡ false }
@@ -126,7 +155,8 @@ impl<R: Runtime, H: Host> Program<'_, R, H> {
         service: Service,
         output: &mut O,
     ) -> Ending<H::Port, H::Log>
-        ensures serves { ServesMachine (record { file = H.Files.file self.now.host.now; listens = H.listens self.now.host.now; address = H.Port.address; journal = record { gives = H.journal self.now.host.now; reliable = H.Log.reliable; content = H.Log.content; may_leave = H.Log.may_leave } }) (opened map) None service result
+        ensures serves { ServesMachine (host_view ⟦<H as Files>⟧ H.listens H.journal ⟦<H::Port as Port<H::Connection>>⟧ ⟦<H::Log as Log>⟧ self.now.host.now)
+            (opened map) None service result
             (⟦<O as Writes>⟧.state output.old) (⟦<O as Writes>⟧.state output.new) }
         ensures leaves { LeavesOutput result.outcome (⟦<O as Writes>⟧.state output.old) (⟦<O as Writes>⟧.state output.new) }
         ensures reads { is_input_failed result.outcome ≡ false }
@@ -142,15 +172,14 @@ impl<R: Runtime, H: Host> Program<'_, R, H> {
     }
 
     // The machine of a map that was read, after the batches of its journal, and that journal.
-    fn open_kept(
-        &self,
-        read: ReadMap,
-        path: &str,
-    ) -> Result<Kept<Option<Journal<H::Log>>>, JournalFault>
-        ensures opened { IfOk result (λ kept. IfSome kept.keeper (λ journal. IsOpened (record { gives = H.journal self.now.host.now; reliable = H.Log.reliable; content = H.Log.content; may_leave = H.Log.may_leave }) path.now (map_fingerprint read.source.items read.files) (opened read.map) kept.machine journal)) }
-        ensures some { IfOk result (λ kept. is_some kept.keeper ≡ true) }
-        ensures ready { IfOk result (λ kept. (batches : List (List ℕ)) × ⟦<Option<Journal<H::Log>> as Keeps>⟧.keeps kept.keeper batches) }
-        ensures fault { IfErr result (IsUnopened (record { gives = H.journal self.now.host.now; reliable = H.Log.reliable; content = H.Log.content; may_leave = H.Log.may_leave }) path.now (map_fingerprint read.source.items read.files) (opened read.map)) }
+    fn open_kept(&self, read: ReadMap, path: &str) -> Result<OpenedMap<H::Log>, JournalFault>
+        ensures opened { IfOk result (λ map. IfSome map.kept.keeper
+            (λ journal. IsOpened (journal_view H.journal ⟦<H::Log as Log>⟧ self.now.host.now) path.now
+            (map_fingerprint read.source.items read.files) (opened read.map) map.kept.machine journal map.cut)) }
+        ensures some { IfOk result (λ map. is_some map.kept.keeper ≡ true) }
+        ensures ready { IfOk result (λ map. (batches : List (List ℕ)) × ⟦<Option<Journal<H::Log>> as Keeps>⟧.keeps map.kept.keeper batches) }
+        ensures fault { IfErr result (IsUnopened (journal_view H.journal ⟦<H::Log as Log>⟧ self.now.host.now) path.now
+            (map_fingerprint read.source.items read.files) (opened read.map)) }
     {
         let alloc = self.rt.alloc();
         let Ok(fingerprint) = fingerprint_of_map(alloc, &read) else {
@@ -164,35 +193,52 @@ impl<R: Runtime, H: Host> Program<'_, R, H> {
             host: self.host,
             path,
         };
-        let journal = open_journal(alloc, place, fingerprint, &mut machine)?;
-        Ok(Kept {
-            machine,
-            keeper: Some(journal),
+        let opened = open_journal(alloc, place, fingerprint, &mut machine)?;
+        Ok(OpenedMap {
+            kept: Kept {
+                machine,
+                keeper: Some(opened.journal),
+            },
+            cut: opened.cut,
         })
     }
 
     /// Serves a map that was read in the state after the batches of its journal, which keeps those that follow. It listens on two ports for
-    /// that. It reports why the journal can't be opened, or that the journal failed.
+    /// that. It reports why the journal can't be opened, or that the journal failed; and that a torn tail was cut off, where that is requested or a
+    /// log is kept.
     pub fn serve_kept<I, O: Sink, E: Sink>(
         &self,
         read: ReadMap,
-        asked: (Service, &str),
+        journaled: JournaledService<'_>,
         console: &mut Console<I, O, E>,
     ) -> Ending<H::Port, H::Log>
-        ensures serves { ServesMap (record { file = H.Files.file self.now.host.now; listens = H.listens self.now.host.now; address = H.Port.address; journal = record { gives = H.journal self.now.host.now; reliable = H.Log.reliable; content = H.Log.content; may_leave = H.Log.may_leave } }) (Some asked.entry.1.now) (map_fingerprint read.source.items read.files) read.map asked.entry.0 result
-            (record { output = ⟦<O as Writes>⟧.state console.old.output; later_output = ⟦<O as Writes>⟧.state console.new.output; errors = ⟦<E as Writes>⟧.state console.old.errors; later_errors = ⟦<E as Writes>⟧.state console.new.errors }) }
+        ensures serves { ServesMap (host_view ⟦<H as Files>⟧ H.listens H.journal ⟦<H::Port as Port<H::Connection>>⟧ ⟦<H::Log as Log>⟧ self.now.host.now)
+            journaled.entry.explains (Some journaled.entry.path.now) (map_fingerprint read.source.items read.files) read.map journaled.entry.service result
+            (record {
+              output = ⟦<O as Writes>⟧.state console.old.output;
+              later_output = ⟦<O as Writes>⟧.state console.new.output;
+              errors = ⟦<E as Writes>⟧.state console.old.errors;
+              later_errors = ⟦<E as Writes>⟧.state console.new.errors;
+            }) }
         ensures input { console.new.input ≡ console.old.input }
         ensures leaves { LeavesOutput result.outcome (⟦<O as Writes>⟧.state console.old.output) (⟦<O as Writes>⟧.state console.new.output) }
         ensures reads { is_input_failed result.outcome ≡ false }
     {
-        let (service, path) = asked;
-        let kept = match self.open_kept(read, path) {
-            Ok(kept) => kept,
+        let JournaledService {
+            service,
+            path,
+            explains,
+        } = journaled;
+        let opened = match self.open_kept(read, path) {
+            Ok(opened) => opened,
             Err(fault) => {
                 report_journal_fault(&mut console.errors, path, fault);
                 return Ending::after(Err(fault.failure()));
             }
         };
+        let OpenedMap { kept, cut } = opened;
+        let tells = is_told(explains, service);
+        report_cut(&mut console.errors, path, tells, cut);
         let ending = self.serve_machine(kept, service, &mut console.output);
         report_end(&mut console.errors, path, ending.outcome());
         ending

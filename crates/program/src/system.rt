@@ -4,7 +4,7 @@ use crate::arguments::ArgumentsUnread;
 use crate::host::{Files, Host, ListenFailed, OpenFault};
 use crate::journal_file::JournalFile;
 use console::ListenCause;
-use service::{Network, SocketConnection, SocketPoller, SocketPort, SocketTransport, SocketWaker};
+use network::{Network, SocketConnection, SocketPoller, SocketPort, SocketTransport, SocketWaker};
 use std::fs::{self, File};
 use std::net::{Ipv4Addr, SocketAddr, TcpListener};
 use std::os::fd::OwnedFd;

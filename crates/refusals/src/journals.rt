@@ -1,7 +1,7 @@
 use crate::marks::{Call, begin, end, play_on};
 use crate::reading::plain_machine;
 use journal::{encode, push_header};
-use journalfile::{Journal, Log, PutFault, ReadError, RecoverFault, recover};
+use journalfile::{Journal, Log, PutFault, ReadError, RecoverFault, Recovered, recover};
 use std::alloc::{AllocError, Global};
 use std::io;
 
@@ -84,7 +84,9 @@ pub fn recover_row(rt: &HostRuntime) -> io::Result<Option<String>> {
     let answer = recover(alloc, &FINGERPRINT, &mut log, &mut machine);
     end(rt)?;
     match answer {
-        Ok(count) => Ok(Some(format!(in alloc; "{count} batches")?)),
+        Ok(Recovered { count, cut }) => {
+            Ok(Some(format!(in alloc; "{count} batches, {cut} bytes cut")?))
+        }
         Err(RecoverFault::NoMemory) => Ok(None),
         Err(_) => Ok(Some(String::from_str(alloc, "another fault")?)),
     }

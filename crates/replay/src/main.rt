@@ -11,8 +11,8 @@ mod transcript;
 use crate::transcript::readable;
 use commandline::Command;
 use console::Console;
+use network::Runtime;
 use program::{Program, SystemHost};
-use service::Runtime;
 use std::io::{self, BufWriter, Write};
 use streams::Flagged;
 

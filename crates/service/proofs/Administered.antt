@@ -12,7 +12,7 @@ use Rattle.console.specs.declared.failure.Failure.TheVariants.{JournalFailed}
 use Rattle.mapshare.specs.Admin.{Batches}
 use Rattle.mapshare.specs.declared.admin.KeepFailed as keep
 use Rattle.streams.specs.Sent.{IsSent, IsCut, IsCutSomewhere}
-use Rattle.workers.specs.Connections.{Attended}
+use Rattle.network.specs.Opening.{Attended}
 use Rattle.service.specs.Administering.{Administers, fault_of, has_kept}
 
 module _ {A B : Type 0} (within : A → B) (held : B → Option (List ℕ)) (taken : B → ℕ) where

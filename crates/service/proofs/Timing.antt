@@ -3,7 +3,7 @@ use Rattle.std.proofs.Common.{◌≡◌, List, Option, None, Some, All, subst, s
 use Rattle.std.proofs.lemmas.List.Elements.{All-weaker}
 use Rattle.std.specs.Prelude.{IfSome}
 use Rattle.commandline.specs.declared.subcommand.Service.{Service}
-use Rattle.service.specs.Times.{IsTimed}
+use Rattle.network.specs.Times.{IsTimed}
 use Rattle.turns.specs.declared.times.Timeouts.{Timeouts}
 
 -- workers with these times have those of the service

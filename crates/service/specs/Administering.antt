@@ -10,7 +10,7 @@ use Rattle.httpedge.specs.declared.edge.EdgeFault.{EdgeFault}
 use Rattle.httpedge.specs.declared.edge.EdgeFault.TheVariants.{Read, Write}
 use Rattle.mapshare.specs.Admin.{Batches}
 use Rattle.streams.specs.Sent.{IsSent}
-use Rattle.workers.specs.Connections.{Attended}
+use Rattle.network.specs.Opening.{Attended}
 
 -- the fault with which a connection is closed: its writer failed, after so many bytes
 abbrev pub fault_of : Result (Unit {0}) AdministerFault → ℕ → Option EdgeFault

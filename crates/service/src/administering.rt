@@ -3,23 +3,19 @@
 ghost use Rattle.std.specs.Prelude.{◌≡◌, ℕ, List, IfSome, MatchOption, OnOk, None, true};
 ghost use Rattle.administration.specs.Keeping.{IsKeptSince};
 ghost use Rattle.service.specs.Administering.{Administers, fault_of, has_kept};
-ghost use Rattle.workers.specs.Connections.{IsServedOne};
+ghost use Rattle.network.specs.Opening.{IsServedOne};
 
-use crate::accepting::Accepting;
-use crate::acceptor::{Acceptor, Plan};
 use crate::clients::queue_of;
-use crate::port::Port;
-use crate::serving::{Administrators, PortFor, Runtime};
 use accesslog::{LogQueue, LoggedSink};
 use administration::{AdministerFault, administer_kept};
 use httpedge::EdgeFault;
 use journalfile::Keeps;
 use mapshare::{Admin, KeepFailed, Sharing};
+use network::{Accepting, Acceptor, Administrators, Opens, Plan, Port, PortFor, Runtime, Sides};
 use std::alloc::Global;
 use std::sync::Arc;
 use std::sync::atomic::{AtomicBool, Ordering};
 use streams::Sink;
-use workers::{Opens, Sides};
 
 // A connection of an administrator that was closed.
 #[derive(Drop)]
@@ -66,7 +62,8 @@ fn administer_one<S: Sharing, K: Keeps, R: Runtime, C: Opens>(
 ) -> (Admin<S>, Option<Attempt<C::Closed>>)
     requires ready { (kept : List (List ℕ)) × K.keeps keeper.old kept }
     ensures served { MatchOption result.1 (C.opens numbered.connection None × (result.0 ≡ admin) × (keeper.new ≡ keeper.old))
-        (λ attempt. IsServedOne C.opens C.closes (Administers S.opening C.Reader.Source.left C.Reader.Source.take_failed C.Writer.Sink.held C.Writer.Sink.taken attempt.has_kept) numbered.connection admin result.0 attempt.closed) }
+        (λ attempt. IsServedOne C.opens C.closes
+        (Administers S.opening C.Reader.Source.left C.Reader.Source.take_failed C.Writer.Sink.held C.Writer.Sink.taken attempt.has_kept) numbered.connection admin result.0 attempt.closed) }
     ensures kept { (kept : List (List ℕ)) → K.keeps keeper.old kept
         → IfSome result.1 (λ attempt. attempt.has_kept ≡ true → IsKeptSince K.keeps admin kept result.0 keeper.new) }
 {
@@ -96,7 +93,7 @@ fn administer_one<S: Sharing, K: Keeps, R: Runtime, C: Opens>(
 pub(crate) struct Administering<P, R> {
     pub port: Accepting<PortFor<Administrators, P>>,
     /// The service ends.
-    pub is_given: Arc<AtomicBool, Global>,
+    pub is_over: Arc<AtomicBool, Global>,
     /// The port of clients isn't served any more.
     pub is_left: Arc<AtomicBool, Global>,
     pub log: Option<LogQueue<R>>,
@@ -121,7 +118,7 @@ impl<P, R> Administering<P, R> {
         C: Drop,
     {
         let accepted = self.port.accept();
-        if self.is_given.load(Ordering::SeqCst) {
+        if self.is_over.load(Ordering::SeqCst) {
             return Came::End;
         }
         match acceptor.follow(Some(accepted)) {

@@ -2,25 +2,22 @@ ghost use Rattle.std.specs.List.{All};
 ghost use Rattle.std.specs.Prelude.{◌≡◌, List, IfErr, IfOk, IfSome, MatchOption, Ok, true};
 ghost use Rattle.eventloop.specs.Working.{BeganWith, HasBeen};
 ghost use Rattle.mapshare.specs.Answerer.{reader_answers};
-ghost use Rattle.service.specs.Ports.{HasAccepted, HasCalled, PortEvent};
-ghost use Rattle.service.specs.Serving.{GoesOnAfter, is_service_failure};
-ghost use Rattle.service.specs.Times.{IsTimed};
+ghost use Rattle.network.specs.Ports.{HasAccepted, HasCalled, PortEvent};
+ghost use Rattle.network.specs.Announcing.{GoesOnAfter, is_service_failure};
+ghost use Rattle.network.specs.Times.{IsTimed};
 ghost use Rattle.turns.specs.Table.{timeouts_of as times_of};
 ghost use Rattle.turns.specs.declared.times.Timeouts.{Timeouts as Times};
 
-use crate::accepting::Accepting;
-use crate::acceptor::{Acceptor, Plan};
-use crate::limits::{FULL_MILLISECONDS, slots_of, timeouts_of};
-use crate::logging::LoggedPoller;
-use crate::port::{AcceptFailed, Port};
-use crate::serving::{Clients, IntoTransport, PortFor, Runtime};
-use crate::starting::Starting;
 use accesslog::{EndsEarly, LogQueue, LoggedTransport};
 use commandline::Service;
 use console::Failure;
 use eventloop::{Ending, Poller, Wakes, Worker, WorkerThreads, start_worker};
 use httpedge::Asks;
 use mapshare::{Reader, Sharing};
+use network::{
+    AcceptFailed, Accepting, Acceptor, Clients, FULL_MILLISECONDS, IntoTransport, LoggedPoller,
+    Plan, Port, PortFor, Runtime, Starting, slots_of, timeouts_of,
+};
 use std::sync::atomic::{AtomicBool, Ordering};
 use std::thread;
 use std::time::Duration;
@@ -33,11 +30,25 @@ struct Limits {
     times: Timeouts,
 }
 
+// The readers of the map, one for each worker, and the workers' pollers.
+#[derive(Drop)]
+struct Seats<S: Sharing, Q> {
+    readers: Vec<Reader<S>>,
+    pollers: Vec<Q>,
+}
+
+// The reader of a worker, and its poller.
+#[derive(Drop)]
+struct Seat<S: Sharing, Q> {
+    reader: Reader<S>,
+    poller: Q,
+}
+
 // Starts a worker for a reader.
 fn start_one<S, R, T, Q>(
     rt: &R,
     workers: &mut WorkerThreads<Reader<S>, LoggedTransport<T, R>, LoggedPoller<Q>, Q::Waker>,
-    asked: (Reader<S>, Q),
+    seat: Seat<S, Q>,
     limits: Limits,
 ) -> Result<(), Failure>
 where
@@ -48,7 +59,7 @@ where
     ensures failed { IfErr result (λ failure. is_service_failure failure ≡ true) }
     ensures began { BeganWith limits.times workers.old.threads.items → BeganWith limits.times workers.new.threads.items }
 {
-    let (reader, poller) = asked;
+    let Seat { reader, poller } = seat;
     let poller = LoggedPoller { inner: poller };
     let places = (limits.slots, limits.times);
     let Ok(worker) = Worker::new(rt.alloc(), reader, poller, places) else {
@@ -64,7 +75,7 @@ where
 fn start_all<S, R, T, Q>(
     rt: &R,
     workers: &mut WorkerThreads<Reader<S>, LoggedTransport<T, R>, LoggedPoller<Q>, Q::Waker>,
-    asked: (Vec<Reader<S>>, Vec<Q>),
+    seats: Seats<S, Q>,
     limits: Limits,
 ) -> Result<(), Failure>
 where
@@ -75,12 +86,15 @@ where
     ensures failed { IfErr result (λ failure. is_service_failure failure ≡ true) }
     ensures began { BeganWith limits.times workers.old.threads.items → BeganWith limits.times workers.new.threads.items }
 {
-    let (readers, mut pollers) = asked;
+    let Seats {
+        readers,
+        mut pollers,
+    } = seats;
     for reader in readers {
         let Some(poller) = pollers.pop() else {
             return Err(Failure::SocketFailed);
         };
-        start_one::<S, R, T, Q>(rt, workers, (reader, poller), limits)?;
+        start_one::<S, R, T, Q>(rt, workers, Seat { reader, poller }, limits)?;
     }
     Ok(())
 }
@@ -125,6 +139,13 @@ where
     }
 }
 
+// What the thread that accepts connections looks at: whether it has to stop, and the queue of the log, if there is one.
+#[derive(Clone, Copy)]
+struct Watched<'a, R> {
+    is_stopped: &'a AtomicBool,
+    log: &'a Option<LogQueue<R>>,
+}
+
 // The next connection of a port, by one call, unless too many wait for their workers.
 fn accept_next<A, C, T, P, Q, W, R>(
     rt: &R,
@@ -154,7 +175,7 @@ fn accept_all<S, R, C, T, P, Q, W>(
     rt: &R,
     port: &mut Accepting<PortFor<Clients, P>>,
     workers: &mut WorkerThreads<Reader<S>, LoggedTransport<T, R>, LoggedPoller<Q>, W>,
-    asked: (&AtomicBool, &Option<LogQueue<R>>),
+    watched: Watched<'_, R>,
 ) -> Result<(), Failure>
 where
     S: Sharing + Send + Sync + 'static,
@@ -164,11 +185,12 @@ where
     T: Transport + Drop,
     P: Port<C>,
     W: Wakes + Drop,
-    ensures accepted { (events : List PortEvent) × HasAccepted (P.log port.old.port.port) (P.log port.new.port.port) port.old.remaining port.new.remaining events }
+    ensures accepted { (events : List PortEvent)
+        × HasAccepted (P.log port.old.port.port) (P.log port.new.port.port) port.old.remaining port.new.remaining events }
     ensures failed { IfErr result (λ failure. is_service_failure failure ≡ true) }
     ensures threads { workers.new.threads ≡ workers.old.threads }
 {
-    let (is_stopped, log) = asked;
+    let Watched { is_stopped, log } = watched;
     let mut acceptor = Acceptor::new();
     for _ in rt.forever() {
         let accepted = accept_next(rt, port, workers);
@@ -211,7 +233,7 @@ pub(crate) struct ClientSide<P, Q, R> {
 // Starts a worker for each reader. Where one can't be started, those that were end.
 fn start_workers<S, R, T, Q>(
     rt: &R,
-    asked: (Vec<Reader<S>>, Vec<Q>),
+    seats: Seats<S, Q>,
     service: Service,
 ) -> Result<WorkerThreads<Reader<S>, LoggedTransport<T, R>, LoggedPoller<Q>, Q::Waker>, Failure>
 where
@@ -231,16 +253,34 @@ where
         LoggedTransport<T, R>,
         LoggedPoller<Q>,
         Q::Waker,
-    >::new(rt.alloc(), asked.0.len()) else {
+    >::new(rt.alloc(), seats.readers.len()) else {
         return Err(Failure::NoMemory);
     };
-    match start_all::<S, R, T, Q>(rt, &mut workers, asked, limits) {
+    match start_all::<S, R, T, Q>(rt, &mut workers, seats, limits) {
         Ok(()) => Ok(workers),
         Err(failure) => {
             let _ = workers.end(rt, Ending::Stops);
             Err(failure)
         }
     }
+}
+
+// How the workers end: the thread of clients has to stop, or no further client comes.
+fn ending_of(is_stopped: &AtomicBool) -> Ending {
+    if is_stopped.load(Ordering::SeqCst) {
+        Ending::Stops
+    } else {
+        Ending::Finishes
+    }
+}
+
+/// What the thread of clients tells, whether their workers were started, and the flag that has it stop.
+#[derive(Clone, Copy)]
+pub(crate) struct ClientFlags<'a> {
+    /// Gets whether the workers were started.
+    pub starting: &'a Starting,
+    /// The thread has to stop.
+    pub is_stopped: &'a AtomicBool,
 }
 
 /// Answers the connections of clients by a worker for each reader, up to the last. Those that came are answered to their end. Where the thread has to
@@ -250,7 +290,7 @@ pub(crate) fn serve_clients<S, R, C, T, P, Q>(
     rt: &R,
     readers: Vec<Reader<S>>,
     side: ClientSide<P, Q, R>,
-    signals: (&Starting, &AtomicBool),
+    flags: ClientFlags<'_>,
 ) -> (
     Result<(), Failure>,
     Option<Vec<Worker<Reader<S>, LoggedTransport<T, R>, LoggedPoller<Q>>>>,
@@ -264,17 +304,21 @@ where
     Q: Poller<T> + Send + Drop + 'static,
     ensures ends { GoesOnAfter (Ok tt) result.0 }
     ensures answered { IfSome result.1 (λ workers. All (λ worker. HasBeen (reader_answers S.opening) (λ t. T.delivered t.inner) (λ t. T.accepted t.inner)
-        (λ old outcome new. T.reads old.inner outcome new.inner) (λ old outcome new. T.writes old.inner outcome new.inner) (λ old new. T.shuts old.inner new.inner) worker.table worker.asks) workers.items) }
+        (λ old outcome new. T.reads old.inner outcome new.inner) (λ old outcome new. T.writes old.inner outcome new.inner)
+        (λ old new. T.shuts old.inner new.inner) worker.table worker.asks) workers.items) }
     ensures timed { IfSome result.1 (λ workers. All (λ worker. IsTimed side.service (times_of worker.table)) workers.items) }
 {
-    let (starting, is_stopped) = signals;
+    let ClientFlags {
+        starting,
+        is_stopped,
+    } = flags;
     let ClientSide {
         mut port,
         pollers,
         service,
         log,
     } = side;
-    let started = start_workers::<S, R, T, Q>(rt, (readers, pollers), service);
+    let started = start_workers::<S, R, T, Q>(rt, Seats { readers, pollers }, service);
     starting.tell(rt, started.is_ok());
     let mut workers = match started {
         Ok(workers) => workers,
@@ -284,14 +328,12 @@ where
         rt,
         &mut port,
         &mut workers,
-        (is_stopped, &log),
+        Watched {
+            is_stopped,
+            log: &log,
+        },
     );
     // from now on the system refuses further ones
     drop(port);
-    let ending = if is_stopped.load(Ordering::SeqCst) {
-        Ending::Stops
-    } else {
-        Ending::Finishes
-    };
-    (served, workers.end(rt, ending))
+    (served, workers.end(rt, ending_of(is_stopped)))
 }

@@ -1,17 +1,17 @@
 ghost use Rattle.std.specs.Prelude.{◌≡◌, Ok, Err};
 ghost use Rattle.console.specs.declared.failure.Failure.TheVariants.{NoMemory};
 
-use crate::serving::Ports;
 use commandline::Service;
 use console::Failure;
 use history::Shown;
 use mapmachine::Machine;
+use network::Ports;
 use std::marker::Model;
 use std::snapshot::Snapshot;
 
 /// A service: the map of a machine that it served, its two ports, its options, the keeper of its batches as it began, how it ended, and
-/// then the keeper, and all batches that were accepted. Only `serve_by_threads` makes one, so a caller who has one knows which map, which ports and which keeper that call was
-/// given. That it started a thread for each port is tested.
+/// then the keeper, and all batches that were accepted. Only `serve_by_threads` makes one, so a caller who has one knows which map, which
+/// ports and which keeper that call was given. That it started a thread for each port is tested.
 #[derive(Drop)]
 pub struct Served<P, K> {
     machine: Snapshot<Machine>,
@@ -33,7 +33,16 @@ impl<P, K> Model for Served<P, K> {
 
     ghost coded = { Prim.hlevel (codes, expr.the_row.coded, P.code, K.code) };
 
-    ghost view = { λ s. record { machine = s.machine.value; keeper = s.keeper.value; clients = s.clients.value; administration = s.administration.value; service = s.service; outcome = s.outcome; last = s.last.value; accepted = s.accepted } };
+    ghost view = { λ s. record {
+      machine = s.machine.value;
+      keeper = s.keeper.value;
+      clients = s.clients.value;
+      administration = s.administration.value;
+      service = s.service;
+      outcome = s.outcome;
+      last = s.last.value;
+      accepted = s.accepted;
+    } };
 }
 
 impl<P, K> Served<P, K> {
@@ -44,7 +53,16 @@ impl<P, K> Served<P, K> {
         ports: &Ports<P, W, Q, I>,
         accepted: Shown,
     ) -> Self
-        ensures { result ≡ record { machine = machine.now; keeper = keeper.now; clients = ports.now.clients.port; administration = ports.now.administration.port; service = ports.now.service; outcome = Ok tt; last = keeper.now; accepted = accepted } }
+        ensures { result ≡ record {
+          machine = machine.now;
+          keeper = keeper.now;
+          clients = ports.now.clients.port;
+          administration = ports.now.administration.port;
+          service = ports.now.service;
+          outcome = Ok tt;
+          last = keeper.now;
+          accepted = accepted;
+        } }
     {
         Served {
             machine: Snapshot::of(machine),

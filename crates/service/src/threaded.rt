@@ -2,18 +2,12 @@ ghost use Rattle.std.specs.Prelude.{◌≡◌, ◌++◌, ℕ, List, IfErr, IsErr
 ghost use Rattle.batches.specs.Batch.{accepted};
 ghost use Rattle.sharing.specs.Sharing.{after};
 ghost use Rattle.administration.specs.Keeping.{IsKeptSince};
-ghost use Rattle.service.specs.Serving.{HasAnnounced, GoesOnAfter, is_service_failure};
+ghost use Rattle.network.specs.Announcing.{HasAnnounced, GoesOnAfter, is_service_failure};
+ghost use Rattle.service.specs.Serving.{IsServiceOf};
 
-use crate::accepting::Accepting;
 use crate::administering::{Administering, administer_all};
-use crate::announcing::Addresses;
-use crate::clients::{ClientSide, serve_clients};
-use crate::logging::{Logs, start_log};
-use crate::port::Port;
+use crate::clients::{ClientFlags, ClientSide, serve_clients};
 use crate::served::Served;
-use crate::serving::{Administrators, IntoTransport, Network, PortFor, Ports, Runtime};
-use crate::signals::{ClientSignals, ClientStop, Wakers, signals_of};
-use crate::starting::Starting;
 use accesslog::LogQueue;
 use console::{Failure, Writes};
 use eventloop::{Poller, Wakes};
@@ -21,6 +15,10 @@ use history::Blank;
 use journalfile::Keeps;
 use mapmachine::Machine;
 use mapshare::{Admin, KeepFailed, Reader, ShareFault, Sharing, open};
+use network::{
+    Accepting, Addresses, Administrators, ClientSignals, IntoTransport, Logs, Network, Port,
+    PortFor, Ports, Runtime, Starting, StopSignal, Wakers, signals_of, start_log,
+};
 use std::alloc::Global;
 use std::marker::Brand;
 use std::sync::Arc;
@@ -45,8 +43,11 @@ where
     Q: Poller<T> + Send + Drop + 'static,
     W: Wakes,
 {
-    let starts = (&*signals.starting, &*signals.is_stopped);
-    let (served, _workers) = serve_clients::<S, R, C, T, P, Q>(rt, readers, side, starts);
+    let flags = ClientFlags {
+        starting: &signals.starting,
+        is_stopped: &signals.is_stopped,
+    };
+    let (served, _workers) = serve_clients::<S, R, C, T, P, Q>(rt, readers, side, flags);
     signals.is_left.store(true, Ordering::SeqCst);
     if served.is_err() || signals.is_stopped.load(Ordering::SeqCst) {
         signals.is_over.give();
@@ -109,7 +110,7 @@ struct Started<P, R, W: Wakes> {
     // The side of administrators.
     administering: Administering<P, R>,
     // Has the thread of clients stop.
-    stop: ClientStop<W>,
+    stop: StopSignal<W>,
     // The input with whose end the service ends could not be read.
     has_failed: Arc<AtomicBool, Global>,
 }
@@ -202,7 +203,7 @@ where
         clients: started_clients(rt, &signals.starting, clients)?,
         administering: Administering {
             port,
-            is_given: signals.is_given,
+            is_over: signals.is_over,
             is_left: signals.is_left,
             log: logs.administration,
         },
@@ -225,7 +226,8 @@ where
     K: Keeps,
     requires ready { (kept : List (List ℕ)) × K.keeps keeper.old kept }
     ensures ends { GoesOnAfter (Ok tt) result.1 }
-    ensures kept { (kept : List (List ℕ)) → K.keeps keeper.old kept → (result.1 ≡ Err Failure.JournalFailed → ⊥) → IsKeptSince K.keeps admin kept result.0 keeper.new }
+    ensures kept { (kept : List (List ℕ)) → K.keeps keeper.old kept → (result.1 ≡ Err Failure.JournalFailed → ⊥)
+        → IsKeptSince K.keeps admin kept result.0 keeper.new }
 {
     let Started {
         clients,
@@ -269,8 +271,10 @@ where
     K: Keeps,
     O: Sink,
     requires ready { (kept : List (List ℕ)) × K.keeps keeper.old kept }
-    ensures announced { HasAnnounced (N.Port.address opened.ports.clients.port) (N.Port.address opened.ports.administration.port) result.1 (⟦<O as Writes>⟧.state output.old) (⟦<O as Writes>⟧.state output.new) }
-    ensures kept { (kept : List (List ℕ)) → K.keeps keeper.old kept → (result.1 ≡ Err Failure.JournalFailed → ⊥) → IsKeptSince K.keeps opened.admin kept result.0 keeper.new }
+    ensures announced { HasAnnounced (N.Port.address opened.ports.clients.port) (N.Port.address opened.ports.administration.port) result.1
+        (⟦<O as Writes>⟧.state output.old) (⟦<O as Writes>⟧.state output.new) }
+    ensures kept { (kept : List (List ℕ)) → K.keeps keeper.old kept → (result.1 ≡ Err Failure.JournalFailed → ⊥)
+        → IsKeptSince K.keeps opened.admin kept result.0 keeper.new }
 {
     let Opened {
         admin,
@@ -309,8 +313,10 @@ where
     K: Keeps,
     O: Sink,
     requires ready { (kept : List (List ℕ)) × K.keeps keeper.old kept }
-    ensures announced { HasAnnounced (N.Port.address opened.ports.clients.port) (N.Port.address opened.ports.administration.port) result.1 (⟦<O as Writes>⟧.state output.old) (⟦<O as Writes>⟧.state output.new) }
-    ensures kept { (kept : List (List ℕ)) → K.keeps keeper.old kept → (result.1 ≡ Err Failure.JournalFailed → ⊥) → IsKeptSince K.keeps opened.admin kept result.0 keeper.new }
+    ensures announced { HasAnnounced (N.Port.address opened.ports.clients.port) (N.Port.address opened.ports.administration.port) result.1
+        (⟦<O as Writes>⟧.state output.old) (⟦<O as Writes>⟧.state output.new) }
+    ensures kept { (kept : List (List ℕ)) → K.keeps keeper.old kept → (result.1 ≡ Err Failure.JournalFailed → ⊥)
+        → IsKeptSince K.keeps opened.admin kept result.0 keeper.new }
 {
     if !opened.ports.service.logs {
         return serve_both::<S, R, N, K, O>(rt, opened, keeper, output);
@@ -362,9 +368,11 @@ where
     requires history { blank.seen.book ≡ S.book }
     requires opening { kept.machine ≡ S.opening }
     requires ready { (batches : List (List ℕ)) × K.keeps kept.keeper batches }
-    ensures served { result ≡ record { machine = S.opening; keeper = kept.keeper; clients = ports.clients.port; administration = ports.administration.port; service = ports.service; outcome = result.outcome; last = result.last; accepted = result.accepted } }
-    ensures announced { HasAnnounced (N.Port.address ports.clients.port) (N.Port.address ports.administration.port) result.outcome (⟦<O as Writes>⟧.state output.old) (⟦<O as Writes>⟧.state output.new) }
-    ensures kept { (batches : List (List ℕ)) → K.keeps kept.keeper batches → (result.outcome ≡ Err Failure.JournalFailed → ⊥) → K.keeps result.last (batches ++ result.accepted) }
+    ensures served { IsServiceOf S.opening kept.keeper ports.clients.port ports.administration.port ports.service result }
+    ensures announced { HasAnnounced (N.Port.address ports.clients.port) (N.Port.address ports.administration.port) result.outcome
+        (⟦<O as Writes>⟧.state output.old) (⟦<O as Writes>⟧.state output.new) }
+    ensures kept { (batches : List (List ℕ)) → K.keeps kept.keeper batches → (result.outcome ≡ Err Failure.JournalFailed → ⊥)
+        → K.keeps result.last (batches ++ result.accepted) }
     ensures accepted { IsSome (after accepted S.opening result.accepted) }
 {
     let Kept {
@@ -403,9 +411,11 @@ pub fn serve_by_threads<R: Runtime, N: Network, K: Keeps + Drop, O: Sink>(
     output: &mut O,
 ) -> Served<N::Port, K>
     requires ready { (batches : List (List ℕ)) × K.keeps kept.keeper batches }
-    ensures served { result ≡ record { machine = kept.machine; keeper = kept.keeper; clients = ports.clients.port; administration = ports.administration.port; service = ports.service; outcome = result.outcome; last = result.last; accepted = result.accepted } }
-    ensures announced { HasAnnounced (N.Port.address ports.clients.port) (N.Port.address ports.administration.port) result.outcome (⟦<O as Writes>⟧.state output.old) (⟦<O as Writes>⟧.state output.new) }
-    ensures kept { (batches : List (List ℕ)) → K.keeps kept.keeper batches → (result.outcome ≡ Err Failure.JournalFailed → ⊥) → K.keeps result.last (batches ++ result.accepted) }
+    ensures served { IsServiceOf kept.machine kept.keeper ports.clients.port ports.administration.port ports.service result }
+    ensures announced { HasAnnounced (N.Port.address ports.clients.port) (N.Port.address ports.administration.port) result.outcome
+        (⟦<O as Writes>⟧.state output.old) (⟦<O as Writes>⟧.state output.new) }
+    ensures kept { (batches : List (List ℕ)) → K.keeps kept.keeper batches → (result.outcome ≡ Err Failure.JournalFailed → ⊥)
+        → K.keeps result.last (batches ++ result.accepted) }
     ensures accepted { IsSome (after accepted kept.machine result.accepted) }
 {
     serve_named::<Brand, R, N, K, O>(rt, Blank::new(), kept, ports, output)

@@ -1,10 +1,10 @@
 use crate::cuts::opened;
 use crate::memory::stream_of;
 use crate::ports::{LAST, RESPONSE};
+use blocking::serve_connection;
 use mapmachine::Machine;
 use std::alloc::{AllocError, Global};
 use test_tables::{TableFault, check_rows};
-use workers::serve_connection;
 
 // The end of a connection, whether its reader and its writer failed, whether the writer holds the first bytes of the
 // response, and how many. Then the calls of the reader and of the writer that fail, where each moves one byte: the head

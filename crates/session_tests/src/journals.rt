@@ -2,7 +2,7 @@
 
 use crate::hosts::{arguments_of, run_program};
 use crate::texts::{columns, spelt};
-use service::Runtime;
+use network::Runtime;
 use std::alloc::AllocError;
 use std::sync::atomic::Ordering;
 use test_tables::{TableFault, check_all};
@@ -15,6 +15,8 @@ serve a.map --port 81 --admin-port 82 --connections 1 --journal fresh.journal|c 
 serve a.map --port 81 --admin-port 82 --connections 2 --journal fresh.journal|cc bb|0 done 3 0 0 84|listening a port another port~|
 serve a.map --port 81 --admin-port 82 --connections 1 --journal kept.journal|c b|0 done 2 0 0 42|listening a port another port~|
 serve a.map --port 81 --admin-port 82 --connections 1 --journal torn.journal|c b|0 done 2 0 0 42|listening a port another port~|
+serve --explain a.map --port 81 --admin-port 82 --connections 1 --journal torn.journal|c b|0 done 2 0 0 42|listening a port another port~|a.map: warning: the service has no wms_onlineresource, and http://localhost/wms? has no port~warning journal torn.journal: a torn record of 10 bytes was cut off~
+serve --explain a.map --port 81 --admin-port 82 --connections 1 --journal kept.journal|c b|0 done 2 0 0 42|listening a port another port~|a.map: warning: the service has no wms_onlineresource, and http://localhost/wms? has no port~
 serve a.map --port 81 --admin-port 82 --connections 1 --journal kept.journal|c r|0 done 0 0 0 0|listening a port another port~|
 serve a.map --port 81 --admin-port 82 --connections 1|c b|0 done 1 0 0 0|listening a port another port~|
 # a journal that fails ends the wait for a client, and the program
@@ -64,5 +66,5 @@ fn is_ended<R: Runtime>(rt: &R, system: &HostRuntime, line: &str) -> Result<bool
 
 #[test]
 fn batches_are_kept_in_the_journal_that_is_named(rt: HostRuntime) -> Result<(), TableFault> {
-    check_all(rt.alloc(), JOURNALS, 22, |_, line| is_ended(&rt, &rt, line))
+    check_all(rt.alloc(), JOURNALS, 24, |_, line| is_ended(&rt, &rt, line))
 }

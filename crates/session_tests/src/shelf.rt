@@ -9,8 +9,10 @@ use console::ListenCause;
 use eventloop::{Poller, Wakes};
 use httpedge::EdgeFault;
 use mapdefs::Text;
+use network::{
+    AcceptFailed, AddressFault, IntoTransport, Network, NothingLeft, Opens, Port, Sides,
+};
 use program::{Files, Host, ListenFailed, OpenFault};
-use service::{AcceptFailed, AddressFault, IntoTransport, Network, Port};
 use std::alloc::{AllocError, Global};
 use std::io::{self, Read, Write};
 use std::sync::Arc;
@@ -19,7 +21,6 @@ use std::thread;
 use std::time::Duration;
 use streams::Flagged;
 use turns::{ReadOutcome, Transport, WriteOutcome};
-use workers::{NothingLeft, Opens, Sides};
 
 // The address of the port of clients.
 const CLIENTS: &str = "a port";

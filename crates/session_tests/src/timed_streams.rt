@@ -1,4 +1,4 @@
-use service::{AnswerWritten, Closing, TimedReader, TimedWriter, Waits};
+use network::{AnswerWritten, Closing, TimedReader, TimedWriter, Waits};
 use std::alloc::{AllocError, Global};
 use std::cell::Cell;
 use std::io::{self, Read, Write};

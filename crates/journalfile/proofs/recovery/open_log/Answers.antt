@@ -26,6 +26,12 @@ returns-in-Ok-cut_synced-clause-recovered g c =
       stood = λ reliable. subst (λ (f : List ℕ). StandsFor fingerprint f found.0) (sym (old reliable)) (stands_torn fingerprint found.0 tail torn);
       journal = λ reliable. c.in-Ok-cut_synced.ensures.shortened reliable ∙ (ap (λ (l : List ℕ). take end l) (c.in-Ok.ensures.content reliable) ∙ cut_done fingerprint found.0 tail (g.L.Log.content c.args.log.now) end (old reliable) (ends reliable));
       durable = λ reliable. c.in-Ok-cut_synced.ensures.durable reliable;
+      cut = λ reliable. omega (
+        arith,
+        ap length (old reliable),
+        length-append (journal_of sha256 fingerprint found.0) tail,
+        ap length (c.in-Ok-cut_synced.ensures.shortened reliable ∙ (ap (λ (l : List ℕ). take end l) (c.in-Ok.ensures.content reliable) ∙ cut_done fingerprint found.0 tail (g.L.Log.content c.args.log.now) end (old reliable) (ends reliable))),
+      );
     }
 
 pub returns-in-Ok-cut_synced-clause-any_moment : goal.returns-in-Ok-cut_synced-clause-any_moment

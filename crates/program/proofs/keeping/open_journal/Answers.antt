@@ -14,6 +14,7 @@ returns-in-Ok-clause-opened g c =
       after = found.after;
       stood = found.stood;
       settled = λ reliable. record { file = found.journal reliable; count = found.counted; durable = found.durable reliable };
+      shorter = found.cut;
     }
 
 pub returns-in-Err-clause-fault : goal.returns-in-Err-clause-fault

@@ -1,5 +1,5 @@
 use Rattle.std.proofs.Common.{[], refl, rules}
-use Rattle.service.proofs.Noting.{next-accepted, none-accepted}
+use Rattle.network.proofs.Noting.{next-accepted, none-accepted}
 use Rattle.service.proofs.clients.accept_all.Goals as goal
 
 pub loop-init : goal.loop-init

@@ -1,5 +1,5 @@
 use Rattle.std.proofs.Common.{◌≡◌, List}
-use Rattle.service.specs.Ports.{HasAccepted, PortEvent}
+use Rattle.network.specs.Ports.{HasAccepted, PortEvent}
 use Rattle.service.proofs.clients.accept_all.Given as goal
 
 -- the connections that came so far, and the threads as they were

@@ -1,8 +1,8 @@
-use Rattle.service.proofs.accepting.Accepting.TheSendSync as AcceptingCrosses
+use Rattle.network.proofs.accepting.Accepting.TheSendSync as AcceptingCrosses
 use Rattle.service.proofs.clients.ClientSide.TheSendSync as ClientSideCrosses
-use Rattle.service.proofs.serving.PortFor.TheSendSync as PortForCrosses
-use Rattle.service.proofs.signals.ClientSignals.TheSendSync as ClientSignalsCrosses
-use Rattle.service.proofs.signals.StopSignal.TheSendSync as StopSignalCrosses
+use Rattle.network.proofs.ports.PortFor.TheSendSync as PortForCrosses
+use Rattle.network.proofs.signals.ClientSignals.TheSendSync as ClientSignalsCrosses
+use Rattle.network.proofs.signals.StopSignal.TheSendSync as StopSignalCrosses
 use Rattle.mapshare.proofs.Crossing.{fielded}
 use Rattle.mapshare.proofs.ReaderCrossing.{reader-send}
 use Rattle.service.proofs.threaded.start_clients.Goals as goal

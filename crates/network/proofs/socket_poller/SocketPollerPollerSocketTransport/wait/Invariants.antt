@@ -1,5 +1,5 @@
 use Rattle.std.proofs.Common.{◌≤◌, length}
-use Rattle.service.proofs.socket_poller.SocketPollerPollerSocketTransport.wait.Given as goal
+use Rattle.network.proofs.socket_poller.SocketPollerPollerSocketTransport.wait.Given as goal
 
 abbrev pub invariant-loop-event : goal.invariant-loop-event
 invariant-loop-event l = l.count ≤ length l.room

@@ -1,5 +1,5 @@
 ghost use Rattle.std.specs.Prelude.{◌≡◌};
-ghost use Rattle.service.specs.Sockets.{read_outcome, write_outcome};
+ghost use Rattle.network.specs.Sockets.{read_outcome, write_outcome};
 
 use mio::net::TcpStream;
 use std::io::{self, ErrorKind, IoSlice, Read};

@@ -1,6 +1,6 @@
 use Rattle.std.proofs.Common.{◌≡◌, ℕ, ◌+◌, List, length}
 use Rattle.std.specs.Io.KnownBytes.{Consumes}
-use Rattle.service.proofs.closing.drain.Given as goal
+use Rattle.network.proofs.closing.drain.Given as goal
 
 -- the bytes read so far and those that may still be read add up to the limit
 abbrev pub invariant-loop-left : goal.invariant-loop-left

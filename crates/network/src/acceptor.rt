@@ -13,7 +13,7 @@ use turns::Transport;
 const MAX_FAILURES: u32 = 100;
 
 /// A connection has to give way, as a further one lacks a descriptor. It can't be let go: it is obeyed.
-pub(crate) struct Press {
+pub struct Press {
     // So many calls have failed one after the other that the port is given up, unless a client is served.
     is_last: bool,
 }
@@ -46,26 +46,31 @@ impl Press {
 }
 
 /// What the thread that accepts connections does next.
-pub(crate) enum Plan<C> {
+pub enum Plan<C> {
     /// It makes the next call.
     Wait,
     /// No further connection is requested.
     End,
     /// It hands over a connection, the one of this number.
-    HandOver { connection: C, number: u64 },
+    HandOver {
+        /// The connection.
+        connection: C,
+        /// Its number, counted from 1.
+        number: u64,
+    },
     /// A connection has to give way.
     Press(Press),
 }
 
 /// How many connections came, and how many calls for one have failed since.
 #[derive(Drop)]
-pub(crate) struct Acceptor {
+pub struct Acceptor {
     count: u64,
     failures: u32,
 }
 
 impl Acceptor {
-    ghost use Rattle.service.specs.Accepting.{Follows};
+    ghost use Rattle.network.specs.Accepting.{Follows};
 
     /// None came, and no call failed.
     pub fn new() -> Self

@@ -1,5 +1,5 @@
 ghost use Rattle.std.specs.Prelude.{◌≡◌, ◌-◌, option_map};
-ghost use Rattle.service.specs.Ports.{HasCalled, requested};
+ghost use Rattle.network.specs.Ports.{HasCalled, requested};
 
 use crate::port::{AcceptFailed, Port};
 

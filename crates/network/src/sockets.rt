@@ -2,8 +2,9 @@ ghost use Rattle.std.specs.Prelude.{None};
 
 use crate::closing::hang_up;
 use crate::limits::{DRAIN_SECONDS, FAILURE_MILLISECONDS, Waits};
+use crate::opening::{NothingLeft, Opens, Sides};
 use crate::port::{AcceptFailed, AddressFault, Port};
-use crate::serving::IntoTransport;
+use crate::ports::IntoTransport;
 use crate::shared_stream::SharedStream;
 use crate::socket_transport::SocketTransport;
 use crate::timed::{AnswerWritten, TimedReader, TimedWriter};
@@ -17,7 +18,6 @@ use std::sync::atomic::{AtomicBool, Ordering};
 use std::time::Duration;
 use std::{io, thread};
 use streams::Flagged;
-use workers::{NothingLeft, Opens, Sides};
 
 // How often a waker tries to open a connection.
 const WAKE_TRIES: u32 = 6_000;

@@ -1,5 +1,6 @@
 ghost use Rattle.std.specs.Prelude.{◌≡◌};
 
+use crate::opening::Opens;
 use crate::port::{AcceptFailed, AddressFault, Port};
 use commandline::Service;
 use eventloop::{Poller, Wakes};
@@ -11,7 +12,6 @@ use std::rt::Clock;
 use std::sync::Wait;
 use std::thread::Threads;
 use turns::Transport;
-use workers::Opens;
 
 /// The runtime of a service: it takes memory, has a clock, writes a log, waits, and starts threads.
 pub trait Runtime: AllocGlobal + Clock + Eprint + Wait + Threads + Send + Copy + Drop + 'static {}

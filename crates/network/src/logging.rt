@@ -1,9 +1,9 @@
 //! The log of a service: the thread that writes it, and the poller of connections that are logged.
 
 ghost use Rattle.std.specs.Prelude.{◌≡◌, ◌≤◌, IfErr, length, true};
-ghost use Rattle.service.specs.Serving.{is_service_failure};
+ghost use Rattle.network.specs.Announcing.{is_service_failure};
 
-use crate::serving::Runtime;
+use crate::ports::Runtime;
 use accesslog::{LogQueue, LoggedTransport};
 use console::Failure;
 use eventloop::Poller;
@@ -22,7 +22,8 @@ const END_TRIES: u32 = 100;
 
 /// A poller of transports that are logged.
 #[derive(Drop)]
-pub(crate) struct LoggedPoller<Q> {
+pub struct LoggedPoller<Q> {
+    /// The poller of the transports within.
     pub inner: Q,
 }
 
@@ -80,7 +81,7 @@ fn flag_of(
 
 /// A log, and the thread that writes it.
 #[derive(Drop)]
-pub(crate) struct Log<R> {
+pub struct Log<R> {
     queue: LogQueue<R>,
     thread: JoinHandle<()>,
     // The thread has written all lines.
@@ -144,8 +145,10 @@ impl<R: Runtime> Log<R> {
 
 /// The logs of clients and of administrators, each if there is one.
 #[derive(Drop)]
-pub(crate) struct Logs<R> {
+pub struct Logs<R> {
+    /// That of clients.
     pub clients: Option<LogQueue<R>>,
+    /// That of administrators.
     pub administration: Option<LogQueue<R>>,
 }
 
@@ -160,7 +163,7 @@ impl<R> Logs<R> {
 }
 
 /// Starts a log for both.
-pub(crate) fn start_log<R: Runtime>(rt: &R) -> Result<(Log<R>, Logs<R>), Failure>
+pub fn start_log<R: Runtime>(rt: &R) -> Result<(Log<R>, Logs<R>), Failure>
     ensures failed { IfErr result (λ failure. is_service_failure failure ≡ true) }
 {
     let log = Log::start(rt)?;

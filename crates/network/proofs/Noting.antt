@@ -1,7 +1,7 @@
 -- The events of a port, call after call.
 use Rattle.std.proofs.Common.{◌≡◌, ◌≢◌, true, false, ◌∙◌, ℕ, ◌+◌, ◌-◌, List, [], ◌∷◌, ◌++◌, Option, None, Some, option_map, Result, Ok, Err, arith, refl, sym, ap, subst, append_assoc, append-nil}
 use Rattle.std.specs.Prelude.{MatchOption}
-use Rattle.service.specs.Ports.{PortEvent, Failed, Opened, Notes, HasAccepted, HasCalled, count_opened}
+use Rattle.network.specs.Ports.{PortEvent, Failed, Opened, Notes, HasAccepted, HasCalled, count_opened}
 
 Notes-nil : (a : Option (List PortEvent)) → Notes a a []
 Notes-nil None = tt

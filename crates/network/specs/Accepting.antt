@@ -1,9 +1,9 @@
 -- What follows on a call for a connection of a client (docs/SERVICE.md, "The program").
 use Rattle.std.specs.Prelude.{◌≡◌, ℕ, ◌+◌, ◌-◌, ◌^◌, min, nat_le, Option, None, Some, Result, Ok, Err}
-use Rattle.service.specs.declared.acceptor.Acceptor.{Acceptor}
-use Rattle.service.specs.declared.acceptor.Plan.{Plan}
-use Rattle.service.specs.declared.acceptor.Plan.TheVariants as plan
-use Rattle.service.specs.declared.port.AcceptFailed.{AcceptFailed}
+use Rattle.network.specs.declared.acceptor.Acceptor.{Acceptor}
+use Rattle.network.specs.declared.acceptor.Plan.{Plan}
+use Rattle.network.specs.declared.acceptor.Plan.TheVariants as plan
+use Rattle.network.specs.declared.port.AcceptFailed.{AcceptFailed}
 
 -- a connection that came is handed over under the next number, and no failure counts any more. After a call that failed a connection has to give way,
 -- and the hundredth failure one after the other is the last. After the last connection that is requested all ends, and where no call was made nothing

@@ -1,7 +1,7 @@
 use Rattle.std.proofs.Common.{◌≡◌, ◌≤◌, ◌++◌, length, take, arith, length-append, length-take-le}
 use Rattle.std.proofs.lemmas.Grind.{common_steps}
 use Rattle.std.proofs.KnownBytes.{Consumes-trans}
-use Rattle.service.proofs.closing.drain.Goals as goal
+use Rattle.network.proofs.closing.drain.Goals as goal
 
 pub loop-left-preserved : goal.loop-left-preserved
 loop-left-preserved g c =

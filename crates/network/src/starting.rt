@@ -4,7 +4,7 @@ use std::sync::{Condvar, Mutex, Wait};
 
 /// Tells one thread whether the workers were started by another.
 #[derive(Drop)]
-pub(crate) struct Starting {
+pub struct Starting {
     // Whether they were, once that is known.
     has_started: Mutex<Option<bool>>,
     told: Condvar,

@@ -1,9 +1,9 @@
 ghost use Rattle.std.specs.Prelude.{◌≡◌, IfErr, IfOk, IfSome, true};
 ghost use Rattle.console.specs.Console.{IsWritten};
-ghost use Rattle.service.specs.Serving.{AreAddresses, addresses_line, is_service_failure};
+ghost use Rattle.network.specs.Announcing.{AreAddresses, addresses_line, is_service_failure};
 
 use crate::port::{AddressFault, Port};
-use crate::serving::Ports;
+use crate::ports::Ports;
 use console::{Failure, Writes, finish};
 use mapdefs::Text;
 use std::alloc::Global;
@@ -23,8 +23,10 @@ fn address_of<C, P: Port<C>>(alloc: Global, port: &P) -> Result<Text, Failure>
 
 /// The addresses of the two ports of a service.
 #[derive(Drop)]
-pub(crate) struct Addresses {
+pub struct Addresses {
+    /// That of the port of clients.
     pub clients: Text,
+    /// That of the port of administrators.
     pub administration: Text,
 }
 
@@ -34,7 +36,9 @@ impl Addresses {
         alloc: Global,
         ports: &Ports<P, W, Q, I>,
     ) -> Result<Self, Failure>
-        ensures addresses { IfOk result (λ addresses. AreAddresses (P.address ports.now.clients.port) (P.address ports.now.administration.port) addresses.clients addresses.administration) }
+        ensures addresses { IfOk result
+            (λ addresses. AreAddresses (P.address ports.now.clients.port)
+            (P.address ports.now.administration.port) addresses.clients addresses.administration) }
         ensures unknown { IfErr result (λ failure. is_service_failure failure ≡ true) }
     {
         Ok(Addresses {
@@ -45,7 +49,8 @@ impl Addresses {
 
     /// Writes them to the output, in one line, and flushes it: that of clients first.
     pub fn write<O: Sink>(&self, output: &mut O) -> Result<(), Failure>
-        ensures { IsWritten result (⟦<O as Writes>⟧.state output.old) (⟦<O as Writes>⟧.state output.new) (addresses_line self.now.clients self.now.administration) }
+        ensures { IsWritten result (⟦<O as Writes>⟧.state output.old) (⟦<O as Writes>⟧.state output.new)
+            (addresses_line self.now.clients self.now.administration) }
     {
         let (clients, administration) = (self.clients.as_str(), self.administration.as_str());
         finish(

@@ -1,5 +1,5 @@
 ghost use Rattle.std.specs.Prelude.{◌≡◌, ◌||◌, ◌≤◌, IsSome, None, true};
-ghost use Rattle.service.specs.Closing.{HasDrained};
+ghost use Rattle.network.specs.Closing.{HasDrained};
 
 use httpedge::EdgeFault;
 use streams::Source;

@@ -1,5 +1,5 @@
 ghost use Rattle.std.specs.Prelude.{◌≡◌, [], ◌∷◌, IfOk, IfSome, OnErr, OnOk};
-ghost use Rattle.service.specs.Ports.{Failed, Opened, Notes};
+ghost use Rattle.network.specs.Ports.{Failed, Opened, Notes};
 
 use mapdefs::Text;
 use std::alloc::Global;
@@ -24,7 +24,7 @@ pub enum AddressFault {
 /// A port that gives connections of the type C.
 pub trait Port<C> {
     ghost use Rattle.std.specs.Prelude.{ℕ, List, Option};
-    ghost use Rattle.service.specs.Ports.{PortEvent};
+    ghost use Rattle.network.specs.Ports.{PortEvent};
 
     // The events so far, where they are known.
     ghost log: { Self → Option (List PortEvent) };

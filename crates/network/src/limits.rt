@@ -1,7 +1,7 @@
 ghost use Rattle.std.specs.Prelude.{◌≡◌, ◌*◌, ◌/◌, max, option_map};
 ghost use Rattle.std.specs.Duration.{as_nanos};
 ghost use Rattle.std.specs.Time.{instant_nanos};
-ghost use Rattle.service.specs.Times.{IsLeft, IsTimed};
+ghost use Rattle.network.specs.Times.{IsLeft, IsTimed};
 
 use commandline::Service;
 use std::io;

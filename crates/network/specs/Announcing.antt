@@ -1,0 +1,48 @@
+-- How a service announces its ports, and goes on after that (docs/SERVICE.md, "The program").
+use Rattle.std.specs.Prelude.{◌≡◌, ◌⊎◌, ◌++◌, ℕ, Bool, true, false, List, Option, IfSome, Ok, Err, MatchResult, codes}
+use Rattle.console.specs.Console.{Outcome, WriterState, IsWritten}
+use Rattle.console.specs.declared.failure.Failure.{Failure}
+use Rattle.console.specs.declared.failure.Failure.TheVariants.{ListenFailed, SocketFailed, WatchFailed, JournalFailed, NoMemory}
+
+-- why there is no service, or it ended early: a port, a thread, the input with whose end it ends, or the keeper of batches failed, or memory was
+-- refused
+abbrev pub is_service_failure : Failure → Bool
+is_service_failure (ListenFailed port cause) = true
+is_service_failure SocketFailed = true
+is_service_failure WatchFailed = true
+is_service_failure JournalFailed = true
+is_service_failure NoMemory = true
+is_service_failure failure = false
+
+-- an outcome is such a failure
+abbrev pub fails_service : Outcome → Bool
+fails_service (Ok done) = false
+fails_service (Err failure) = is_service_failure failure
+
+-- the line with the addresses of the ports of a service, that of clients first
+abbrev pub addresses_line : List ℕ → List ℕ → List ℕ
+addresses_line clients administration = codes "listening " ++ (clients ++ (codes " " ++ (administration ++ codes "\n")))
+
+-- two addresses are those of two ports, where these are known
+abbrev pub AreAddresses : Option (List ℕ) → Option (List ℕ) → List ℕ → List ℕ → Type 0
+AreAddresses clients administration first second = IfSome clients (λ known. first ≡ known) × IfSome administration (λ known. second ≡ known)
+
+-- that line was written to the output, with the addresses of both ports
+abbrev pub HasWrittenAddresses : Outcome → Option (List ℕ) → Option (List ℕ) → WriterState → WriterState → Type 0
+HasWrittenAddresses outcome clients administration old new =
+    (first second : List ℕ) × AreAddresses clients administration first second × IsWritten outcome old new (addresses_line first second)
+
+-- nothing was written, because a port's address, a port, a thread or memory is missing
+abbrev pub IsUnserved : Outcome → WriterState → WriterState → Type 0
+IsUnserved outcome old new = (fails_service outcome ≡ true) × (new ≡ old)
+
+-- how it ended after the addresses were written: well, or because a port, a thread or memory is missing; never because of the mapfile or an argument.
+-- Where writing the addresses failed, it ended with that failure
+abbrev pub GoesOnAfter : Outcome → Outcome → Type 0
+GoesOnAfter (Ok done) outcome = MatchResult outcome (λ _. Unit {0}) (λ failure. is_service_failure failure ≡ true)
+GoesOnAfter (Err failure) outcome = outcome ≡ Err failure
+
+-- the addresses of the two ports of a service were written once, and it went on after that; or it failed before
+abbrev pub HasAnnounced : Option (List ℕ) → Option (List ℕ) → Outcome → WriterState → WriterState → Type 0
+HasAnnounced clients administration outcome old new =
+    IsUnserved outcome old new ⊎ ((said : Outcome) × HasWrittenAddresses said clients administration old new × GoesOnAfter said outcome)

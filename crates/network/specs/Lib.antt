@@ -1,0 +1,7 @@
+pub mod Accepting
+pub mod Announcing
+pub mod Closing
+pub mod Opening
+pub mod Ports
+pub mod Sockets
+pub mod Times
