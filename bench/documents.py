@@ -95,7 +95,8 @@ class Crate:
         for text in self.files.values():
             for header, body in blocks(text) if owners else [("", text)]:
                 if not owners or owners & types(header):
-                    yield from re.findall(rf"\bfn {call}\b(.*?)(?:^ *{{}}?$|;$)", body, re.M | re.S)
+                    for found in re.finditer(rf"\bfn {call}\b", body):
+                        yield contract_at(body, found.end())
 
     def clauses(self, name):
         """The clauses of a call, by the names behind `ensures`."""
@@ -104,6 +105,19 @@ class Crate:
     def has_nameless_clause(self, name):
         """Whether a call has a clause without a name."""
         return any(re.search(r"\bensures\*? \{", contract) for contract in self.contracts(name))
+
+
+def contract_at(text, start):
+    """What stands between the name of a call and its body, or the end of its declaration. A clause may have several lines, with braces and semicolons."""
+    lines, depth = [], 0
+    for line in text[start:].split("\n"):
+        if depth == 0 and lines and line.strip() in ("{", "{}"):
+            break
+        lines.append(line)
+        depth += line.count("{") - line.count("}")
+        if depth == 0 and line.endswith(";"):
+            break
+    return "\n".join(lines)
 
 
 def is_method(owner, name):
