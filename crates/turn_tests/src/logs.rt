@@ -115,7 +115,7 @@ fn ends_and_commands_are_logged_by_their_words(rt: HostRuntime) -> Result<(), Fa
     let text = other_lines(rt.alloc())?;
     assert_eq!(rt;
         text.as_str(),
-        "end 12 idle\nend 12 head\nend 12 answer\nend 12 rate\nend 12 fault\nend 12 place\nend 12 busy\nend 12 stopped\nbatch 3 HELD\n"
+        "end 12 idle\nend 12 head\nend 12 answer\nend 12 rate\nend 12 fault\nend 12 evicted\nend 12 busy\nend 12 stopped\nbatch 3 HELD\n"
     );
     Ok(())
 }
