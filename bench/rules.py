@@ -29,20 +29,18 @@ MOST_WORDS = 30
 BEFORE = ("over", "by", "model")
 HEAD = """# Rules and promises
 
-Each rule and promise: the definition that states it, the clauses that keep it, and what runs for it in the program. The subjects stand in the order of a request; then come mapfiles and files, batches, sharing and the program. `bench/documents.py --write` makes this page of [rules.csv](RULES_CSV), and each gate checks every cell.
+Each rule and promise: the definition that states it, the clauses that keep it, and what runs for it in the program. The subjects stand in the order of a request; then come mapfiles and files, batches, sharing and the program. Each gate checks every cell; `bench/documents.py --write` makes this page of [rules.csv](RULES_CSV).
 
-- `httpedge::exchange` is the call `exchange` of the crate `httpedge`; a name in small letters after it is a clause of that call. A call without one has one clause, which has no name. A call of a trait is promised of all that implement it.
-- `laws` are functions without arguments, whose contract names a fact about the definitions.
-- Definitions and code stand below `crates/`. A *model* is a definition of the code's steps: contracts within the crate or of the next one cite it, and no rule does.
+- `httpedge::exchange` is the call `exchange` of the crate `httpedge`; a name in small letters after it is a clause of that call. A call without one has one clause, which has no name. A call of a trait is promised of all that implement it. `laws` are facts about the definitions.
+- Definitions and code stand below `crates/`. A *model* is a definition of the code's steps, which no rule cites.
 - *Code* is the file of such a call. A name before it is what the program runs beside that call, or in its place.
-- *Mutant* names the edit of `must-fail/` that each gate tries. *Planted* means that [planted.csv](PLANTED_CSV) has a mutant of a function of the row, *tests* that tests alone refuse one. Where it is empty, planted.csv has mutants of the crate.
+- *Mutant* names the edit of `must-fail/` that each gate tries, or says that tests alone refuse one. [planted.csv](PLANTED_CSV) has mutants of the functions, or of the crates, of the other rows.
 - Where a call takes memory, it may answer that it is out of memory instead. That it does so only where memory was refused is tested, not proved.
 - A call that waits promises what holds where it returns. The loop of `eventloop` makes the calls of [Turns](#turns) and no others on its table.
-- No clause says what a file of the system does: [VERIFICATION.md](VERIFICATION_MD#the-file-of-a-journal) says what has to hold of a journal's.
 
-[VERIFICATION.md](VERIFICATION_MD) says how strong the contracts are, and what isn't proved.
+[VERIFICATION.md](VERIFICATION_MD) says how strong the contracts are, what isn't proved, and what has to hold of [a journal's file](VERIFICATION_MD#the-file-of-a-journal).
 """
-COLUMN_NAMES = "| Look for | Rule or promise | Definition | Kept by | Code | Mutant |\n|---|---|---|---|---|---|\n"
+COLUMN_NAMES = "| Look for | Rule or promise | Definition | Kept by | Code |\n|---|---|---|---|---|\n"
 
 
 def rows():
@@ -110,15 +108,18 @@ def shown_code(words, remark):
     return remarked(in_file(words, ".rt"), remark)
 
 
-def shown_mutant(words, _):
-    return f"`{words[0]}`" if words[0].endswith(".edit") else words[0]
+def shown_mutants(row):
+    """The edits that the gate tries, or that tests alone refuse one. A mutant that is planted stands in planted.csv."""
+    named = [words[0] for words, _ in entries(row["mutant"]) if words[0] != "planted"]
+    return f"; *mutant* {', '.join(f'`{name}`' if name.endswith('.edit') else name for name in named)}" if named else ""
 
 
 def shown(row):
     """The line of a row in the table of the page."""
     cells = [row["look for"], f"{row['rule or promise']} ({link(row['page'])})"]
-    columns = {"definition": shown_definition, "kept by": shown_call, "code": shown_code, "mutant": shown_mutant}
+    columns = {"definition": shown_definition, "kept by": shown_call, "code": shown_code}
     cells += ["; ".join(show(*entry) for entry in entries(row[column])) for column, show in columns.items()]
+    cells[3] += shown_mutants(row)
     return f"| {' | '.join(cells)} |\n"
 
 
