@@ -9,7 +9,8 @@ end of an entry, or alone:
     page               the page and the heading that have the rule, as `WMS: Queries`
     definition         CRATE/specs/MODULE NAMES, perhaps with `over`, `by` or `model` (of the code's steps) before it
     kept by            CRATE::CALL CLAUSES: clauses that keep it, by their names. A call that names none has one without a name
-    code               CRATE/src/FILE: the file of a call that keeps it. With NAMES: what the program runs for it beside these calls or in their place
+    code               CRATE/src/FILE: the file of a call that keeps it, which the page leaves out. With NAMES: what the program runs for it beside
+                       these calls or in their place
     mutant             an edit of must-fail, `planted` for a row of planted.csv, or `tests` where tests alone refuse one
 """
 import csv
@@ -33,7 +34,7 @@ Each rule and promise: the definition that states it, the clauses that keep it, 
 
 - `httpedge::exchange` is the call `exchange` of the crate `httpedge`; a name in small letters after it is a clause of that call. A call without one has one clause, which has no name. A call of a trait is promised of all that implement it. `laws` are facts about the definitions.
 - Definitions and code stand below `crates/`. A *model* is a definition of the code's steps, which no rule cites.
-- *Code* is the file of such a call. A name before it is what the program runs beside that call, or in its place.
+- *Code* is what the program runs beside those calls, or in their place.
 - *Mutant* names the edit of `must-fail/` that each gate tries, or says that tests alone refuse one. [planted.csv](PLANTED_CSV) has mutants of the functions, or of the crates, of the other rows.
 - Where a call takes memory, it may answer that it is out of memory instead. That it does so only where memory was refused is tested, not proved.
 - A call that waits promises what holds where it returns. The loop of `eventloop` makes the calls of [Turns](#turns) and no others on its table.
@@ -105,7 +106,8 @@ def shown_call(words, remark):
 
 
 def shown_code(words, remark):
-    return remarked(in_file(words, ".rt"), remark)
+    """What runs beside a call or in its place. The file of a call that keeps the rule isn't shown: its crate and name are."""
+    return remarked(in_file(words, ".rt"), remark) if len(words) != 1 or remark else ""
 
 
 def shown_mutants(row):
@@ -118,7 +120,7 @@ def shown(row):
     """The line of a row in the table of the page."""
     cells = [row["look for"], f"{row['rule or promise']} ({link(row['page'])})"]
     columns = {"definition": shown_definition, "kept by": shown_call, "code": shown_code}
-    cells += ["; ".join(show(*entry) for entry in entries(row[column])) for column, show in columns.items()]
+    cells += ["; ".join(filter(None, (show(*entry) for entry in entries(row[column])))) for column, show in columns.items()]
     cells[3] += shown_mutants(row)
     return f"| {' | '.join(cells)} |\n"
 
