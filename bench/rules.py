@@ -34,14 +34,13 @@ Each rule and promise: the definition that states it, the clauses that keep it, 
 
 - `httpedge::exchange` is the call `exchange` of the crate `httpedge`; a name in small letters after it is a clause of that call. A call without one has one clause, which has no name. A call of a trait is promised of all that implement it. `laws` are facts about the definitions.
 - Definitions and code stand below `crates/`. A *model* is a definition of the code's steps, which no rule cites.
-- *Code* is what the program runs beside those calls, or in their place.
-- *Mutant* names the edit of `must-fail/` that each gate tries, or says that tests alone refuse one. [planted.csv](PLANTED_CSV) has mutants of the functions, or of the crates, of the other rows.
+- What *runs* in the program beside those calls, or in their place, comes after them. *Mutant* names the edit of `must-fail/` that each gate tries, or says that tests alone refuse one. [planted.csv](PLANTED_CSV) has mutants of the functions, or of the crates, of the other rows.
 - Where a call takes memory, it may answer that it is out of memory instead. That it does so only where memory was refused is tested, not proved.
 - A call that waits promises what holds where it returns. The loop of `eventloop` makes the calls of [Turns](#turns) and no others on its table.
 
 [VERIFICATION.md](VERIFICATION_MD) says how strong the contracts are, what isn't proved, and what has to hold of [a journal's file](VERIFICATION_MD#the-file-of-a-journal).
 """
-COLUMN_NAMES = "| Look for | Rule or promise | Definition | Kept by | Code |\n|---|---|---|---|---|\n"
+COLUMN_NAMES = "| Look for | Rule or promise | Definition | Kept by |\n|---|---|---|---|\n"
 
 
 def rows():
@@ -120,8 +119,9 @@ def shown(row):
     """The line of a row in the table of the page."""
     cells = [row["look for"], f"{row['rule or promise']} ({link(row['page'])})"]
     columns = {"definition": shown_definition, "kept by": shown_call, "code": shown_code}
-    cells += ["; ".join(filter(None, (show(*entry) for entry in entries(row[column])))) for column, show in columns.items()]
-    cells[3] += shown_mutants(row)
+    *columns, code = ("; ".join(filter(None, (show(*entry) for entry in entries(row[column])))) for column, show in columns.items())
+    cells += columns
+    cells[-1] += (f"; *runs* {code}" if code else "") + shown_mutants(row)
     return f"| {' | '.join(cells)} |\n"
 
 
