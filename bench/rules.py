@@ -33,7 +33,7 @@ HEAD = """# Rules and promises
 Each rule and promise: the definition that states it, the clauses that keep it, and what runs for it in the program. The subjects stand in the order of a request; then come mapfiles and files, batches, sharing and the program. Each gate checks every cell; `bench/documents.py --write` makes this page of [rules.csv](RULES_CSV).
 
 - `httpedge::exchange` is the call `exchange` of the crate `httpedge`; a name in small letters after it is a clause of that call. A call without one has one clause, which has no name. A call of a trait is promised of all that implement it. `laws` are facts about the definitions.
-- Definitions and code stand below `crates/`. A *model* is a definition of the code's steps, which no rule cites.
+- Definitions and code stand below `crates/`; names after a file are in it. A *model* is a definition of the code's steps, which no rule cites.
 - What *runs* in the program beside those calls, or in their place, comes after them. *Mutant* names the edit of `must-fail/` that each gate tries, or says that tests alone refuse one. [planted.csv](PLANTED_CSV) has mutants of the functions, or of the crates, of the other rows.
 - Where a call takes memory, it may answer that it is out of memory instead. That it does so only where memory was refused is tested, not proved.
 - A call that waits promises what holds where it returns. The loop of `eventloop` makes the calls of [Turns](#turns) and no others on its table.
@@ -69,9 +69,9 @@ def crates_of(named):
 
 
 def in_file(words, ending):
-    """Names of a file, or the file alone."""
-    names = ", ".join(f"`{name}`" for name in words[1:])
-    return (f"{names} of " if names else "") + "".join(f"`{path}{ending}`" for path in words[:1])
+    """A file, and names in it."""
+    path, *names = words or [""]
+    return " ".join([f"`{path}{ending}`", *(f"`{name}`" for name in names)]) if path else ""
 
 
 def remarked(text, remark):
