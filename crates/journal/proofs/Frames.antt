@@ -82,7 +82,7 @@ first_end (c ∷ first) (f ∷ front) rest more none same = further (first_end f
 
 module _ (digest : List ℕ → List ℕ) (fingerprint : List ℕ) where
   -- a record begins with an END, and has another in it
-  record_is : (bytes : List ℕ) → (has : StartsWithRecord digest fingerprint bytes) → bytes ≡ 192 ∷ (stuffed (body digest fingerprint has.0 has.1) ++ 192 ∷ has.2)
+  pub record_is : (bytes : List ℕ) → (has : StartsWithRecord digest fingerprint bytes) → bytes ≡ 192 ∷ (stuffed (body digest fingerprint has.0 has.1) ++ 192 ∷ has.2)
   record_is bytes has = has.4 ∙ frame_before (body digest fingerprint has.0 has.1) has.2
 
   -- without an END there is no record
@@ -97,7 +97,7 @@ module _ (digest : List ℕ → List ℕ) (fingerprint : List ℕ) where
   one_end_torn piece (f ∷ front) rest bytes is none split has =
       no_end_torn bytes none (front, rest, cc (is, split), has)
 
-  short_torn : (piece : List ℕ) → CutShort piece → IsTorn digest fingerprint piece
+  pub short_torn : (piece : List ℕ) → CutShort piece → IsTorn digest fingerprint piece
   short_torn piece (Nothing is) = subst (IsTorn digest fingerprint) (sym is) (no_end_torn [] tt)
   short_torn piece (First bytes is none) = λ has. one_end_torn piece has.0 has.1 bytes is none has.2 has.3
 
@@ -125,6 +125,12 @@ module _ (digest : List ℕ → List ℕ) (fingerprint : List ℕ) where
   pub torn_front : (bytes more : List ℕ) → IsTorn digest fingerprint (bytes ++ more) → IsTorn digest fingerprint bytes
   torn_front bytes more torn has = torn (within_more bytes more has)
 
+  -- the contents of a record have one number and one batch
+  pub same_body : IsDigest digest → (p q a b : List ℕ) → length p ≡ length q → stuffed (body digest fingerprint p a) ≡ stuffed (body digest fingerprint q b) → (p ≡ q) × (a ≡ b)
+  same_body is_digest p q a b long same =
+      let places = same_begin p q _ _ long (same_stuffed (body digest fingerprint p a) (body digest fingerprint q b) same) in
+      (places.0, (same_end a b _ _ (is_digest _ ∙ sym (is_digest _)) places.1).0)
+
   -- some bytes begin with one record only, and have one rest
   pub same_recorded : IsDigest digest → (p q a b x y : List ℕ) → length p ≡ length q → record_of digest fingerprint p a ++ x ≡ record_of digest fingerprint q b ++ y → (p ≡ q) × (a ≡ b) × (x ≡ y)
   same_recorded is_digest p q a b x y long same =
@@ -132,23 +138,3 @@ module _ (digest : List ℕ → List ℕ) (fingerprint : List ℕ) where
       let places = same_begin p q _ _ long frames.0 in
       let batches = same_end a b _ _ (is_digest _ ∙ sym (is_digest _)) places.1 in
       (places.0, batches.0, frames.1)
-
-  -- a record in some bytes is at their first END or after it
-  pub within_next : (bytes first rest : List ℕ) → HasNoEnd first → bytes ≡ first ++ 192 ∷ rest → (StartsWithRecord digest fingerprint (192 ∷ rest) → ⊥) → ContainsRecord digest fingerprint bytes → ContainsRecord digest fingerprint rest
-  within_next bytes first rest none is not_here (front, bs, split, has) =
-      at (first_end first front rest more none (sym is ∙ (split ∙ ap (λ (l : List ℕ). front ++ l) (record_is bs has))))
-    where
-      more : List ℕ
-      more = stuffed (body digest fingerprint has.0 has.1) ++ 192 ∷ has.2
-
-      at : Later front more first rest → ContainsRecord digest fingerprint rest
-      at (Same same) = absurd (not_here (subst (StartsWithRecord digest fingerprint) (record_is bs has ∙ ap (λ (l : List ℕ). 192 ∷ l) same) has))
-      at (Further between same) = (between, bs, same ∙ ap (λ (l : List ℕ). between ++ l) (sym (record_is bs has)), has)
-
-  pub within_back : (bytes first rest : List ℕ) → bytes ≡ first ++ 192 ∷ rest → ContainsRecord digest fingerprint rest → ContainsRecord digest fingerprint bytes
-  within_back bytes first rest is (front, bs, split, has) =
-      (first ++ 192 ∷ front, bs, is ∙ ap (λ (l : List ℕ). first ++ 192 ∷ l) split ∙ sym (append_assoc first (192 ∷ front) bs), has)
-
-  -- and a record at their first END is in them
-  pub within_here : (bytes first rest : List ℕ) → bytes ≡ first ++ 192 ∷ rest → StartsWithRecord digest fingerprint (192 ∷ rest) → ContainsRecord digest fingerprint bytes
-  within_here bytes first rest is has = (first, 192 ∷ rest, is, has)

@@ -1,5 +1,6 @@
 pub mod Stuffing
 pub mod Frames
+pub mod Framing
 pub mod Readings
 pub mod Digests
 pub mod Growing

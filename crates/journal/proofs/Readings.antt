@@ -66,6 +66,7 @@ module _ (digest : List ℕ → List ℕ) (fingerprint : List ℕ) (is_digest : 
       on c d a x b y e (Within more some is rest) = Within more some (cc (e, is)) rest
       on c d a x b y e (Beyond more is rest) = Beyond more (cc (e, is)) rest
 
+  -- some bytes are the records of the first of some batches, and a torn end
   pub record Begins (n : ℕ) (batches : List (List ℕ)) (front : List ℕ) : Type 0 where
     pub whole : List (List ℕ)
     pub later : List (List ℕ)
@@ -91,7 +92,8 @@ module _ (digest : List ℕ → List ℕ) (fingerprint : List ℕ) (is_digest : 
         torn = behind.torn;
       }
 
-  begins_at : (n : ℕ) (batches : List (List ℕ)) (front missing : List ℕ) → records digest fingerprint n batches ≡ front ++ missing → Begins n batches front
+  -- a front of the bytes of records has the first records whole, and a torn end
+  pub begins_at : (n : ℕ) (batches : List (List ℕ)) (front missing : List ℕ) → records digest fingerprint n batches ≡ front ++ missing → Begins n batches front
   begins_at n [] [] missing same = record { whole = []; later = []; tail = []; parts = refl; is = refl; torn = nothing_torn }
   begins_at n [] (b ∷ front) missing same = absurd (cc (same))
   begins_at n (batch ∷ batches) front missing same =

@@ -1,12 +1,12 @@
 -- The batches that a file stands for.
-use Rattle.std.proofs.Common.{◌≡◌, inl, inr, ℕ, ◌+◌, List, [], ◌∷◌, ◌++◌, length, refl, sym, ◌∙◌, ap, subst, append_assoc}
+use Rattle.std.proofs.Common.{◌≡◌, ℕ, ◌+◌, List, [], ◌++◌, length, refl, sym, ◌∙◌, ap, subst, append_assoc}
 use Rattle.std.proofs.lemmas.List.{append-nil}
 use Rattle.sha2.specs.Sha256.{sha256}
 use Rattle.sha2.proofs.Facts256.{length-sha256}
-use Rattle.journal.specs.Record.{header, sequence_bytes, record_of, records, journal_of}
-use Rattle.journal.specs.Reading.{IsTorn, StandsFor, IsBeforeOrAfter}
-use Rattle.journal.proofs.Readings.{one, reads_torn, written, stops}
-use Rattle.journal.proofs.Growing.{journal_push}
+use Rattle.journal.specs.Record.{header, records, journal_of}
+use Rattle.journal.specs.Reading.{IsTorn, StandsFor, StandsForFirst}
+use Rattle.journal.proofs.Readings.{one, reads_torn, written, begins_at}
+use Rattle.journal.proofs.Growing.{journal_append}
 
 module _ (fingerprint : List ℕ) where
   -- a journal stands for its batches
@@ -20,16 +20,23 @@ module _ (fingerprint : List ℕ) where
   pub one_standing : (file : List ℕ) (a b : List (List ℕ)) → StandsFor fingerprint file a → StandsFor fingerprint file b → a ≡ b
   one_standing file a b (s, reads_s, torn_s) (t, reads_t, torn_t) = (one sha256 fingerprint length-sha256 file a b s t reads_s reads_t).0
 
-  -- the file where an append stops, with some of its bytes or all
-  pub stops_at : (batches : List (List ℕ)) (batch left missing : List ℕ) → left ++ missing ≡ record_of sha256 fingerprint (sequence_bytes (length batches + 1)) batch
-      → IsBeforeOrAfter fingerprint batches batch (journal_of sha256 fingerprint batches ++ left)
-  stops_at batches batch left [] is =
-      inr (subst (λ (file : List ℕ). StandsFor fingerprint file (batches ++ batch ∷ []))
-      (journal_push sha256 fingerprint (length batches + 1) batches batch refl ∙ ap (λ (l : List ℕ). journal_of sha256 fingerprint batches ++ l) (sym is ∙ append-nil left))
-      (stands (batches ++ batch ∷ [])))
-  stops_at batches batch left (m ∷ missing) is =
-      let read = stops sha256 fingerprint length-sha256 batches batch left (m ∷ missing) (sym is) (λ e. absurd (cc (e))) in
-      inl (left, read.0, read.1)
+  -- a file that stands for some batches, and for none after them
+  pub stands_first : (batches more : List (List ℕ)) (file : List ℕ) → StandsFor fingerprint file batches → StandsForFirst fingerprint batches more file
+  stands_first batches more file stood = ([], (more, refl), subst (StandsFor fingerprint file) (sym (append-nil batches)) stood)
+
+  -- the file where an append of records stops, with some of their bytes, all or none
+  pub stops_at : (batches more : List (List ℕ)) (left missing : List ℕ) → left ++ missing ≡ records sha256 fingerprint (length batches + 1) more
+      → StandsForFirst fingerprint batches more (journal_of sha256 fingerprint batches ++ left)
+  stops_at batches more left missing is =
+      let found = begins_at sha256 fingerprint length-sha256 (length batches + 1) more left missing (sym is) in
+      let whole : journal_of sha256 fingerprint batches ++ left ≡ journal_of sha256 fingerprint (batches ++ found.whole) ++ found.tail =
+      ap (λ (l : List ℕ). journal_of sha256 fingerprint batches ++ l) found.is
+      ∙ sym (append_assoc (journal_of sha256 fingerprint batches) (records sha256 fingerprint (length batches + 1) found.whole) found.tail)
+      ∙ ap (λ (l : List ℕ). l ++ found.tail) (sym (journal_append sha256 fingerprint (length batches + 1) batches found.whole refl)) in (
+        found.whole,
+        (found.later, sym found.parts),
+        subst (λ (file : List ℕ). StandsFor fingerprint file (batches ++ found.whole)) (sym whole) (stands_torn (batches ++ found.whole) found.tail found.torn),
+      )
 
   -- the header and the records of a file are its journal
   pub whole_file : (file rest tail : List ℕ) (batches : List (List ℕ)) → file ≡ header fingerprint ++ rest → rest ≡ records sha256 fingerprint 1 batches ++ tail → file ≡ journal_of sha256 fingerprint batches ++ tail

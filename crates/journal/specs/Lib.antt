@@ -3,4 +3,4 @@ pub mod Record
 pub mod Reading
 pub mod Law
 pub mod Fingerprint
-pub mod Fault
+pub mod Texts

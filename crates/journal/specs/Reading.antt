@@ -1,12 +1,18 @@
 -- The reading of a file, whatever became of its end (docs/SERVICE.md, "Journal").
-use Rattle.std.specs.Prelude.{◌≡◌, ◌⊎◌, ℕ, ◌+◌, List, [], ◌∷◌, ◌++◌, length}
+use Rattle.std.specs.Prelude.{◌≡◌, ℕ, ◌+◌, List, ◌++◌, length}
+use mathlib.Core.List.{IsPrefix}
 use Rattle.sha2.specs.Sha256.{sha256}
-use Rattle.journal.specs.Record.{sequence_bytes, record_of, journal_of}
+use Rattle.journal.specs.Slip.{stuffed}
+use Rattle.journal.specs.Record.{sequence_bytes, body, record_of, journal_of}
 
 module _ (digest : List ℕ → List ℕ) (fingerprint : List ℕ) where
   -- some bytes begin with the whole record of this number, whatever its batch
   abbrev pub StartsWithNumber : ℕ → List ℕ → Type 0
   StartsWithNumber number bytes = (batch more : List ℕ) × (bytes ≡ record_of digest fingerprint (sequence_bytes number) batch ++ more)
+
+  -- some bytes are those between the two ENDs of a record, whatever its number
+  abbrev pub IsRecordFrame : List ℕ → Type 0
+  IsRecordFrame bytes = (sequence batch : List ℕ) × (length sequence ≡ 8) × (bytes ≡ stuffed (body digest fingerprint sequence batch))
 
   -- some bytes begin with a whole record, whatever its number
   abbrev pub StartsWithRecord : List ℕ → Type 0
@@ -29,9 +35,9 @@ module _ (digest : List ℕ → List ℕ) (fingerprint : List ℕ) where
 abbrev pub StandsFor : List ℕ → List ℕ → List (List ℕ) → Type 0
 StandsFor fingerprint file batches = (tail : List ℕ) × Reads sha256 fingerprint file batches tail × IsTorn sha256 fingerprint tail
 
--- it stands for these batches, with one more or without it
-abbrev pub IsBeforeOrAfter : List ℕ → List (List ℕ) → List ℕ → List ℕ → Type 0
-IsBeforeOrAfter fingerprint batches batch file = StandsFor fingerprint file batches ⊎ StandsFor fingerprint file (batches ++ batch ∷ [])
+-- it stands for these batches and the first of some more: for all of these, for some, or for none
+abbrev pub StandsForFirst : List ℕ → List (List ℕ) → List (List ℕ) → List ℕ → Type 0
+StandsForFirst fingerprint batches more file = (first : List (List ℕ)) × IsPrefix first more × StandsFor fingerprint file (batches ++ first)
 
 -- both stand for the same batches
 abbrev pub StandAlike : List ℕ → List ℕ → List ℕ → Type 0

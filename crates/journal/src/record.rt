@@ -1,12 +1,12 @@
 //! Records: a batch with its number, and the digest of both.
 
-ghost use Rattle.std.specs.Prelude.{◌≡◌, ◌↔◌, ◌≤◌, ◌<◌, ◌-◌, ◌++◌, ◌∷◌, ℕ, List, length, take, drop, IfOk, IsTrue, MatchOption};
+ghost use Rattle.std.specs.Prelude.{◌≡◌, ◌↔◌, ◌≤◌, ◌<◌, ◌-◌, ◌++◌, ◌∷◌, ℕ, List, length, take, drop, IfOk, IsTrue, MatchOption, OnOk};
 ghost use Rattle.sha2.specs.Sha256.{sha256};
 ghost use Rattle.journal.specs.Slip.{stuffed};
 ghost use Rattle.journal.specs.Record.{body, sequence_bytes, record_of};
-ghost use Rattle.journal.specs.Reading.{StartsWithNumber, StartsWithRecord, ContainsRecord};
+ghost use Rattle.journal.specs.Reading.{IsRecordFrame};
 
-use crate::slip::{END, after_end, first_frame, is_equal, push_stuffed, unstuff};
+use crate::slip::{END, is_equal, push_stuffed, unstuff};
 use sha2::{Digest, Sha256};
 use std::alloc::{AllocError, Global};
 
@@ -45,24 +45,24 @@ fn record_digest(fingerprint: &[u8; 32], sequence: &[u8; 8], batch: &[u8]) -> [u
     hasher.finalize()
 }
 
-/// The record of the batch that has a number. The one error is that memory was refused.
-pub fn encode(
-    alloc: Global,
+/// Adds the record of the batch that has a number. The one error is that memory was refused; then a part of it may have been added.
+pub fn push_record(
+    out: &mut Vec<u8>,
     fingerprint: &[u8; 32],
     number: u64,
     batch: &[u8],
-) -> Result<Vec<u8>, AllocError>
-    ensures spelled { IfOk result (λ bytes. bytes.items ≡ record_of sha256 fingerprint.now (sequence_bytes number) batch.now) }
+) -> Result<(), AllocError>
+    ensures spelled { OnOk result (out.new.items ≡ out.old.items ++ record_of sha256 fingerprint.now (sequence_bytes number) batch.now) }
 {
     let sequence = sequence(number);
     let digest = record_digest(fingerprint, &sequence, batch);
-    let mut out = Vec::with_capacity(alloc, batch.len())?;
+    out.reserve(batch.len())?;
     out.push(END)?;
-    push_stuffed(&mut out, &sequence)?;
-    push_stuffed(&mut out, batch)?;
-    push_stuffed(&mut out, &digest)?;
+    push_stuffed(out, &sequence)?;
+    push_stuffed(out, batch)?;
+    push_stuffed(out, &digest)?;
     out.push(END)?;
-    Ok(out)
+    Ok(())
 }
 
 // Whether some bytes end with the digest of those before it.
@@ -97,91 +97,34 @@ fn decode_frame(
     Ok(Some(decoded))
 }
 
-// The number and the batch of a record, from the bytes after its first END, and the bytes after the record.
-fn record_after_end<'a>(
-    alloc: Global,
-    fingerprint: &[u8; 32],
-    bytes: &'a [u8],
-) -> Result<Option<(Vec<u8>, &'a [u8])>, AllocError>
-    ensures { IfOk result (λ found. MatchOption found
-        (StartsWithRecord sha256 fingerprint.now (192 ∷ bytes.now) → ⊥)
-        (λ r. (8 ≤ length r.0.items) × (192 ∷ bytes.now ≡ record_of sha256 fingerprint.now (take 8 r.0.items) (drop 8 r.0.items) ++ r.1.now))) }
-{
-    let Some((frame, rest)) = first_frame(bytes) else {
-        return Ok(None);
-    };
-    match decode_frame(alloc, fingerprint, frame)? {
-        Some(decoded) => Ok(Some((decoded, rest))),
-        None => Ok(None),
-    }
-}
-
-// The number and the batch of the record that some bytes begin with, and the bytes after the record.
-fn any_record<'a>(
-    alloc: Global,
-    fingerprint: &[u8; 32],
-    bytes: &'a [u8],
-) -> Result<Option<(Vec<u8>, &'a [u8])>, AllocError>
-    ensures { IfOk result (λ found. MatchOption found
-        (StartsWithRecord sha256 fingerprint.now bytes.now → ⊥)
-        (λ r. (8 ≤ length r.0.items) × (bytes.now ≡ record_of sha256 fingerprint.now (take 8 r.0.items) (drop 8 r.0.items) ++ r.1.now))) }
-{
-    match after_end(bytes) {
-        Some(rest) => record_after_end(alloc, fingerprint, rest),
-        None => Ok(None),
-    }
-}
-
-/// The batch of the record that some bytes begin with, if it has this number, and the bytes after the record. The one error is
-/// that memory was refused.
-pub fn first_record<'a>(
+/// The batch of the record of a number, from the bytes between its two ENDs: none where they aren't those of such a record. The one
+/// error is that memory was refused.
+pub fn decode(
     alloc: Global,
     fingerprint: &[u8; 32],
     number: u64,
-    bytes: &'a [u8],
-) -> Result<Option<(Vec<u8>, &'a [u8])>, AllocError>
-    ensures record { IfOk result (λ found. MatchOption found
-        (StartsWithNumber sha256 fingerprint.now number bytes.now → ⊥)
-        (λ r. bytes.now ≡ record_of sha256 fingerprint.now (sequence_bytes number) r.0.items ++ r.1.now)) }
+    frame: &[u8],
+) -> Result<Option<Vec<u8>>, AllocError>
+    ensures numbered { IfOk result (λ found. MatchOption found
+        ((batch : List ℕ) → frame.now ≡ stuffed (body sha256 fingerprint.now (sequence_bytes number) batch) → ⊥)
+        (λ batch. frame.now ≡ stuffed (body sha256 fingerprint.now (sequence_bytes number) batch.items))) }
 {
-    let Some((decoded, rest)) = any_record(alloc, fingerprint, bytes)? else {
+    let Some(decoded) = decode_frame(alloc, fingerprint, frame)? else {
         return Ok(None);
     };
     let (sequence_found, batch) = decoded.as_slice().split_at(SEQUENCE);
     if !is_equal(sequence_found, sequence(number).as_slice()) {
         return Ok(None);
     }
-    Ok(Some((batch.to_vec(alloc)?, rest)))
+    Ok(Some(batch.to_vec(alloc)?))
 }
 
-// Whether there is a whole record at an END, by the bytes after that.
-fn starts_with_record(
-    alloc: Global,
-    fingerprint: &[u8; 32],
-    bytes: &[u8],
-) -> Result<bool, AllocError>
-    ensures { IfOk result (λ has. IsTrue has ↔ StartsWithRecord sha256 fingerprint.now (192 ∷ bytes.now)) }
+/// Whether some bytes are those between the two ENDs of a record, whatever its number. The one error is that memory was refused.
+pub fn is_record(alloc: Global, fingerprint: &[u8; 32], frame: &[u8]) -> Result<bool, AllocError>
+    ensures any { IfOk result (λ is. IsTrue is ↔ IsRecordFrame sha256 fingerprint.now frame.now) }
 {
-    match record_after_end(alloc, fingerprint, bytes)? {
+    match decode_frame(alloc, fingerprint, frame)? {
         Some(_) => Ok(true),
         None => Ok(false),
     }
-}
-
-/// Whether there is a whole record somewhere in some bytes. The one error is that memory was refused.
-pub fn contains_record(
-    alloc: Global,
-    fingerprint: &[u8; 32],
-    bytes: &[u8],
-) -> Result<bool, AllocError>
-    ensures within { IfOk result (λ has. IsTrue has ↔ ContainsRecord sha256 fingerprint.now bytes.now) }
-{
-    let mut rest = bytes;
-    while let Some((_, after)) = first_frame(rest) {
-        if starts_with_record(alloc, fingerprint, after)? {
-            return Ok(true);
-        }
-        rest = after;
-    }
-    Ok(false)
 }

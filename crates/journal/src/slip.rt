@@ -91,8 +91,8 @@ pub(crate) fn unstuff(alloc: Global, bytes: &[u8]) -> Result<Option<Vec<u8>>, Al
     Ok(Some(out))
 }
 
-// The bytes before the first END, and those after it.
-pub(crate) fn first_frame(bytes: &[u8]) -> Option<(&[u8], &[u8])>
+/// The bytes before the first END, and those after it.
+pub fn first_frame(bytes: &[u8]) -> Option<(&[u8], &[u8])>
     ensures { MatchOption result (HasNoEnd bytes.now) (λ r. HasNoEnd r.0.now × (bytes.now ≡ r.0.now ++ 192 ∷ r.1.now)) }
 {
     for at in 0..bytes.len() {
@@ -101,17 +101,4 @@ pub(crate) fn first_frame(bytes: &[u8]) -> Option<(&[u8], &[u8])>
         }
     }
     None
-}
-
-// The bytes after the END that some bytes begin with.
-pub(crate) fn after_end(bytes: &[u8]) -> Option<&[u8]>
-    ensures { MatchOption result ((rest : List ℕ) → bytes.now ≡ 192 ∷ rest → ⊥) (λ rest. bytes.now ≡ 192 ∷ rest.now) }
-{
-    let [byte, rest @ ..] = bytes else {
-        return None;
-    };
-    if *byte != END {
-        return None;
-    }
-    Some(rest)
 }

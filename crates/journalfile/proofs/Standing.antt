@@ -4,25 +4,25 @@ use Rattle.std.proofs.lemmas.List.{append-nil, take_at}
 use mathlib.Core.List.{IsPrefix}
 use Rattle.sha2.specs.Sha256.{sha256}
 use Rattle.sha2.proofs.Facts256.{length-sha256}
-use Rattle.journal.specs.Record.{sequence_bytes, record_of, journal_of}
-use Rattle.journal.specs.Reading.{IsTorn, StandsFor, StandAlike, IsBeforeOrAfter}
+use Rattle.journal.specs.Record.{records, journal_of}
+use Rattle.journal.specs.Reading.{IsTorn, StandsFor, StandsForFirst, StandAlike}
 use Rattle.journal.proofs.Readings.{Overlaps, overlap}
 use Rattle.journal.proofs.Readings.Overlaps.{Within, Beyond}
 use Rattle.journal.proofs.Frames.{torn_front}
-use Rattle.journal.proofs.Standing.{stands, stands_torn, stops_at}
+use Rattle.journal.proofs.Standing.{stands, stands_first, stands_torn, stops_at}
 use Rattle.journalfile.specs.Log.{Torn, Cut}
 use Rattle.journalfile.specs.Settled.{GarblesNoRecord}
 use Rattle.journalfile.specs.Steps.{MayCut}
 
 module _ (fingerprint : List ℕ) where
-  -- the bytes that a crash leaves of the append of a record
-  pub add_crash : (garbled : List ℕ → Type 0) → GarblesNoRecord garbled fingerprint → (batches : List (List ℕ)) (batch c : List ℕ)
-      → Torn garbled (record_of sha256 fingerprint (sequence_bytes (length batches + 1)) batch) (journal_of sha256 fingerprint batches) c → IsBeforeOrAfter fingerprint batches batch c
-  add_crash garbled shown batches batch c (left, is, how) = subst (IsBeforeOrAfter fingerprint batches batch) (sym is) (by how)
+  -- the bytes that a crash leaves of the append of records
+  pub add_crash : (garbled : List ℕ → Type 0) → GarblesNoRecord garbled fingerprint → (batches more : List (List ℕ)) (c : List ℕ)
+      → Torn garbled (records sha256 fingerprint (length batches + 1) more) (journal_of sha256 fingerprint batches) c → StandsForFirst fingerprint batches more c
+  add_crash garbled shown batches more c (left, is, how) = subst (StandsForFirst fingerprint batches more) (sym is) (by how)
     where
-      by : IsPrefix left (record_of sha256 fingerprint (sequence_bytes (length batches + 1)) batch) ⊎ garbled left → IsBeforeOrAfter fingerprint batches batch (journal_of sha256 fingerprint batches ++ left)
-      by (inl first) = stops_at fingerprint batches batch left first.0 first.1
-      by (inr garbled) = inl (stands_torn fingerprint batches left (shown left garbled))
+      by : IsPrefix left (records sha256 fingerprint (length batches + 1) more) ⊎ garbled left → StandsForFirst fingerprint batches more (journal_of sha256 fingerprint batches ++ left)
+      by (inl first) = stops_at fingerprint batches more left first.0 first.1
+      by (inr garbled) = stands_first fingerprint batches more (journal_of sha256 fingerprint batches ++ left) (stands_torn fingerprint batches left (shown left garbled))
 
   keeps_by : (batches : List (List ℕ)) (tail c rest : List ℕ) → IsTorn sha256 fingerprint tail → length (journal_of sha256 fingerprint batches) ≤ length c
       → Overlaps sha256 fingerprint length-sha256 c rest (journal_of sha256 fingerprint batches) tail → StandsFor fingerprint c batches

@@ -1,4 +1,5 @@
 pub mod Log
+pub mod Frames
 pub mod Steps
 pub mod Settled
 pub mod Keeping

@@ -1,36 +1,50 @@
 -- The opening of a journal (docs/SERVICE.md, "Journal").
-use Rattle.std.specs.Prelude.{◌≡◌, ℕ, ◌+◌, List, ◌++◌, Some, None, length}
+use Rattle.std.specs.Prelude.{◌≡◌, ℕ, ◌+◌, ◌≤◌, List, ◌++◌, Some, None, length, drop}
 use Rattle.sha2.specs.Sha256.{sha256}
 use Rattle.batches.specs.Batch.{State, accepted}
 use Rattle.sharing.specs.Sharing.{after}
 use Rattle.journal.specs.Record.{signature, header, records, journal_of}
-use Rattle.journal.specs.Reading.{StartsWithNumber, ContainsRecord, Reads, StandsFor}
+use Rattle.journal.specs.Reading.{StartsWithNumber, ContainsRecord, Reads, IsTorn, StandsFor}
 use Rattle.journal.specs.declared.header.HeaderFault.{HeaderFault}
 use Rattle.journal.specs.declared.header.HeaderFault.TheVariants as header_fault
 use Rattle.journalfile.specs.Log.{Only}
 use Rattle.journalfile.specs.declared.recovery.Recovered.{Recovered}
 use Rattle.journalfile.specs.declared.recovery.RecoverFault.{RecoverFault}
 use Rattle.journalfile.specs.declared.recovery.RecoverFault.TheVariants as recover_fault
-use Rattle.journalfile.specs.declared.recovery.ReplayFault.{ReplayFault}
-use Rattle.journalfile.specs.declared.recovery.ReplayFault.TheVariants as replay_fault
+use Rattle.journalfile.specs.declared.recovery.Judged.{Judged}
 
 module _ (fingerprint : List ℕ) where
-  -- some bytes begin with the records of some batches, as many as the count, which led from one state to another. The rest follows them, and doesn't
-  -- begin with the next record
-  abbrev pub IsReplayed : List ℕ → State → ℕ → List ℕ → State → Type 0
-  IsReplayed bytes old count rest new =
-      (batches : List (List ℕ)) × (bytes ≡ records sha256 fingerprint 1 batches ++ rest) × (count ≡ length batches)
-      × (after accepted old batches ≡ Some new) × (StartsWithNumber sha256 fingerprint (count + 1) rest → ⊥)
+  -- the batches of some records, as many as the count, led from one state to another. Where the log is reliable, they stand in the file from one
+  -- offset to another, and the next record doesn't follow
+  pub record HasReplayed (reliable : Type 0) (file : List ℕ) (start : ℕ) (first last : State) (count end : ℕ) : Type 0 where
+    pub batches : List (List ℕ)
+    pub counted : count ≡ length batches
+    pub after : after accepted first batches ≡ Some last
+    pub inside : reliable → end ≤ length file
+    pub split : reliable → drop start file ≡ records sha256 fingerprint 1 batches ++ drop end file
+    pub longest : reliable → StartsWithNumber sha256 fingerprint (count + 1) (drop end file) → ⊥
+
+  -- the batches of a journal led from one state to another. Where the log is reliable, the file is their journal up to an offset, and a torn tail
+  pub record HasJudged (reliable : Type 0) (file : List ℕ) (first last : State) (judged : Judged) : Type 0 where
+    pub batches : List (List ℕ)
+    pub counted : judged.count ≡ length batches
+    pub after : after accepted first batches ≡ Some last
+    pub whole : reliable → file ≡ journal_of sha256 fingerprint batches ++ drop judged.end file
+    pub torn : reliable → IsTorn sha256 fingerprint (drop judged.end file)
+    pub ends : reliable → judged.end + judged.cut ≡ length file
 
   -- some bytes begin with the records of some batches, of which the last, whose number this is, isn't accepted
   abbrev pub IsRefusedAt : List ℕ → State → ℕ → Type 0
   IsRefusedAt bytes old number =
       (batches : List (List ℕ)) × (rest : List ℕ) × (bytes ≡ records sha256 fingerprint 1 batches ++ rest) × (number ≡ length batches) × (after accepted old batches ≡ None)
 
-  -- a batch isn't accepted, or memory was refused
-  abbrev pub IsReplayFault : List ℕ → State → ReplayFault → Type 0
-  IsReplayFault bytes old (replay_fault.Refused number) = IsRefusedAt bytes old number
-  IsReplayFault bytes old replay_fault.NoMemory = Unit {0}
+  -- a batch isn't accepted, memory was refused or the log failed
+  abbrev pub IsReplayFault : {F : Type 0} → List ℕ → State → RecoverFault F → Type 0
+  IsReplayFault bytes old (recover_fault.Header fault) = ⊥
+  IsReplayFault bytes old (recover_fault.Damaged count) = ⊥
+  IsReplayFault bytes old (recover_fault.Refused number) = IsRefusedAt bytes old number
+  IsReplayFault bytes old recover_fault.NoMemory = Unit {0}
+  IsReplayFault bytes old (recover_fault.Failed failure) = Unit {0}
 
   module _ {L : Type 0} (content : L → List ℕ) where
     -- the machine is in the state after some batches, as many as the count. Where the log is reliable, the bytes stood for them, and the log

@@ -1,6 +1,8 @@
 //! Keepers of accepted batches.
 
-ghost use Rattle.std.specs.Prelude.{◌≡◌, ◌⊎◌, ◌++◌, [], ◌∷◌, ℕ, List, OnOk, Err};
+ghost use Rattle.std.specs.Prelude.{◌≡◌, ◌++◌, ℕ, List, OnOk, Err};
+ghost use mathlib.Core.List.{IsPrefix};
+ghost use Rattle.journal.specs.Texts.{texts_of};
 ghost use Rattle.journal.specs.Reading.{StandsFor};
 ghost use Rattle.journalfile.specs.Settled.{GarblesNoRecord, IsSettled};
 ghost use Rattle.journalfile.specs.Keeping.{keeps_of, may_leave_of, option_stays, settled_stands, stands_of};
@@ -8,12 +10,12 @@ ghost use Rattle.journalfile.specs.Keeping.{keeps_of, may_leave_of, option_stays
 use crate::log::Log;
 use crate::writing::{Journal, PutFault};
 
-/// Why a batch isn't kept.
+/// Why batches aren't kept.
 #[derive(Clone, Copy, Debug, PartialEq, Eq)]
 pub enum KeepFault {
     /// Memory was refused, and nothing was done.
     NoMemory,
-    /// It failed. Whether the batch is kept is unknown, and no further one may be.
+    /// It failed. How many of the batches are kept is unknown, and no further one may be.
     Failed,
 }
 
@@ -29,12 +31,13 @@ pub trait Keeps {
     /// A file stands for these batches.
     ghost stands: { Self → List ℕ → List (List ℕ) → Type 0 };
 
-    /// Keeps one more batch. A crash at any moment leaves the batches with it or without it.
-    fn keep(&mut self, batch: &[u8]) -> Result<(), KeepFault>
-        requires ready { (batches : List (List ℕ)) × keeps self.old batches }
-        ensures kept { OnOk result ((batches : List (List ℕ)) → keeps self.old batches → keeps self.new (batches ++ batch.now ∷ [])) }
-        ensures any_moment { (batches : List (List ℕ)) → keeps self.old batches → (file : List ℕ) → may_leave self.old self.new file
-            → stands self.old file batches ⊎ stands self.old file (batches ++ batch.now ∷ []) }
+    /// Keeps more batches, in their order, by one sync. A crash at any moment leaves the batches from before, and after them the first of these, or
+    /// none.
+    fn keep(&mut self, batches: &[Vec<u8>]) -> Result<(), KeepFault>
+        requires ready { (kept : List (List ℕ)) × keeps self.old kept }
+        ensures kept { OnOk result ((kept : List (List ℕ)) → keeps self.old kept → keeps self.new (kept ++ texts_of batches.now)) }
+        ensures any_moment { (kept : List (List ℕ)) → keeps self.old kept → (file : List ℕ) → may_leave self.old self.new file
+            → (first : List (List ℕ)) × IsPrefix first (texts_of batches.now) × stands self.old file (kept ++ first) }
         ensures no_memory { result ≡ Err KeepFault.NoMemory → self.new ≡ self.old };
 
     /// Where nothing is done, a crash leaves the batches.
@@ -54,7 +57,7 @@ impl Keeps for Nowhere {
 
     ghost stays = { λ _ _ _ _ _. tt };
 
-    fn keep(&mut self, _batch: &[u8]) -> Result<(), KeepFault> {
+    fn keep(&mut self, _batches: &[Vec<u8>]) -> Result<(), KeepFault> {
         Ok(())
     }
 }
@@ -69,9 +72,9 @@ impl<K: Keeps> Keeps for Option<K> {
 
     ghost stays = { option_stays K.keeps K.may_leave K.stands K.stays };
 
-    fn keep(&mut self, batch: &[u8]) -> Result<(), KeepFault> {
+    fn keep(&mut self, batches: &[Vec<u8>]) -> Result<(), KeepFault> {
         match self {
-            Some(keeper) => keeper.keep(batch),
+            Some(keeper) => keeper.keep(batches),
             None => Ok(()),
         }
     }
@@ -87,11 +90,11 @@ impl<L: Log> Keeps for Journal<L> {
 
     ghost stays = { λ journal batches file kept left. settled_stands L.content L.may_leave journal batches (kept left.0).1 file (L.only_now left.0 journal.log file left.1) };
 
-    fn keep(&mut self, batch: &[u8]) -> Result<(), KeepFault> {
-        if self.count == u64::MAX {
+    fn keep(&mut self, batches: &[Vec<u8>]) -> Result<(), KeepFault> {
+        if batches.len() as u64 > u64::MAX - self.count {
             return Err(KeepFault::NoMemory);
         }
-        match self.put(batch) {
+        match self.put(batches) {
             Ok(()) => Ok(()),
             Err(PutFault::NoMemory) => Err(KeepFault::NoMemory),
             Err(PutFault::Failed(_)) => Err(KeepFault::Failed),

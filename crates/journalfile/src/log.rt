@@ -1,18 +1,7 @@
 //! The log of a journal.
 
-ghost use Rattle.std.specs.Prelude.{◌≡◌, ◌≤◌, ◌++◌, List, ℕ, length, take, IfOk, OnOk};
+ghost use Rattle.std.specs.Prelude.{◌≡◌, ◌<◌, ◌≤◌, [], ◌++◌, List, ℕ, length, take, drop, IfOk, OnOk};
 ghost use Rattle.journalfile.specs.Log.{Torn, Cut, Follows, NoOther, Only, Elapses};
-
-use std::alloc::Global;
-
-/// Why a log can't be read.
-#[derive(Drop)]
-pub enum ReadError<F> {
-    /// Memory was refused.
-    NoMemory,
-    /// The log failed.
-    Failed(F),
-}
 
 /// Bytes that grow at their end and outlive a crash, as a file on a disk. Each call may fail. A crash may come at any moment, also
 /// within a call. Each clause holds of a log that is reliable.
@@ -23,7 +12,7 @@ pub trait Log {
     /// The log is as its clauses state. Of a file of the system that isn't known.
     ghost reliable: { Type 0 };
 
-    /// The bytes that a read returns.
+    /// The bytes that reads return.
     ghost content: { Self → List ℕ };
 
     /// The bytes that a crash at this moment may leave.
@@ -38,9 +27,11 @@ pub trait Log {
     /// The bytes that a crash may leave in place of appended bytes, where it doesn't leave the first of them.
     ghost garbled: { List ℕ → Type 0 };
 
-    /// Reads all the bytes.
-    fn read(&mut self, alloc: Global) -> Result<Vec<u8>, ReadError<Self::Failure>>
-        ensures bytes { reliable → IfOk result (λ bytes. bytes.items ≡ content self.old) }
+    /// Reads the next bytes from an offset, and returns how many: 0 only where there is no room, or no byte at or behind the offset.
+    fn read_at(&mut self, offset: usize, room: &mut [u8]) -> Result<usize, Self::Failure>
+        ensures count { IfOk result (λ n. n ≤ length room.new) }
+        ensures bytes { reliable → IfOk result (λ n. take n room.new ≡ take n (drop offset (content self.old))) }
+        ensures end { reliable → IfOk result (λ n. n ≡ 0 → 0 < length room.new → drop offset (content self.old) ≡ []) }
         ensures content { reliable → content self.new ≡ content self.old }
         ensures crash { reliable → NoOther (may_leave self.old) (may_leave self.new) }
         ensures time { reliable → Elapses (moment self.old) (moment self.new) (left_since self.old) (left_since self.new) (may_leave self.new) };
@@ -58,7 +49,7 @@ pub trait Log {
         ensures crash { reliable → Follows (Cut end) (may_leave self.old) (may_leave self.new) }
         ensures time { reliable → Elapses (moment self.old) (moment self.new) (left_since self.old) (left_since self.new) (may_leave self.new) };
 
-    /// Keeps all bytes: after it, a crash leaves the bytes that a read returns.
+    /// Keeps all bytes: after it, a crash leaves the bytes that reads return.
     fn sync(&mut self) -> Result<(), Self::Failure>
         ensures durable { reliable → OnOk result (Only (content self.old) (may_leave self.new)) }
         ensures content { reliable → content self.new ≡ content self.old }

@@ -1,19 +1,21 @@
 //! Opening a journal: its batches are applied to a machine once more.
 
-ghost use Rattle.std.specs.Prelude.{◌≡◌, ◌⊎◌, ◌+◌, ◌++◌, ℕ, List, [], ◌∷◌, Some, None, IsSome, length, IfOk, IfErr};
-ghost use Rattle.sha2.specs.Sha256.{sha256};
+ghost use Rattle.std.specs.Prelude.{◌≡◌, ◌⊎◌, ◌+◌, ◌++◌, ℕ, List, drop, IsSome, IfOk, OnOk, IfErr};
 ghost use Rattle.sharing.specs.Sharing.{after};
-ghost use Rattle.journal.specs.Record.{records};
-ghost use Rattle.journal.specs.Reading.{StandAlike, StandsFor, StartsWithNumber};
+ghost use Rattle.batches.specs.Batch.{State, accepted};
+ghost use Rattle.journal.specs.Record.{header};
+ghost use Rattle.journal.specs.Reading.{StandAlike, StandsFor};
 ghost use Rattle.journalfile.specs.Log.{LeavesOnly, Only};
-ghost use Rattle.batches.specs.Batch.{accepted};
-ghost use Rattle.journalfile.specs.Recovery.{HasRecovered, IsFaultOf, IsReplayed, IsReplayFault, IsTransient};
+ghost use Rattle.journalfile.specs.Frames.{IsAhead, IsRead};
+ghost use Rattle.journalfile.specs.Recovery.{HasJudged, HasRecovered, HasReplayed, IsFaultOf, IsReplayFault, IsTransient};
 
-use crate::log::{Log, ReadError};
-use crate::steps::{cut_synced, read_synced};
-use journal::{HeaderFault, after_header, contains_record, first_record};
+use crate::frames::{Frames, ReadError};
+use crate::log::Log;
+use crate::records::{contains_record, next_record};
+use crate::steps::cut_synced;
+use journal::{HeaderFault, SIGNATURE, after_header};
 use mapmachine::{BatchError, Machine};
-use std::alloc::{AllocError, Global};
+use std::alloc::Global;
 
 /// A journal that was opened.
 #[derive(Clone, Copy, Debug)]
@@ -39,47 +41,119 @@ pub enum RecoverFault<F> {
     Failed(F),
 }
 
-// Why batches aren't applied once more.
-#[derive(Drop)]
-pub(crate) enum ReplayFault {
-    // The batch of this number isn't accepted.
-    Refused(u64),
-    // Memory was refused.
-    NoMemory,
-}
+impl<F: Drop> From<ReadError<F>> for RecoverFault<F> {
+    ghost from_gives = { λ _ fault. IsTransient fault };
 
-impl From<AllocError> for ReplayFault {
-    ghost use Rattle.journalfile.specs.declared.recovery.ReplayFault.TheVariants.{NoMemory};
-
-    ghost from_gives = { λ _ e. e ≡ NoMemory };
-
-    fn from(_: AllocError) -> Self {
-        ReplayFault::NoMemory
+    fn from(error: ReadError<F>) -> Self {
+        match error {
+            ReadError::NoMemory => RecoverFault::NoMemory,
+            ReadError::Failed(failure) => RecoverFault::Failed(failure),
+        }
     }
 }
 
-// Applies the batches of the records that some bytes begin with, and returns how many there are and the bytes after them.
-fn replay<'a>(
-    alloc: Global,
+// A journal that was read, and whose batches were applied.
+pub(crate) struct Judged {
+    // How many batches it has.
+    pub(crate) count: u64,
+    // The offset at which its last record ends.
+    pub(crate) end: usize,
+    // How many bytes follow that.
+    pub(crate) cut: usize,
+}
+
+// Reads the header of the map's journal.
+fn read_header<L: Log>(
+    frames: &mut Frames,
+    log: &mut L,
     fingerprint: &[u8; 32],
-    bytes: &'a [u8],
-    machine: &mut Machine,
-) -> Result<(u64, &'a [u8]), ReplayFault>
-    ensures replayed { IfOk result (λ r. IsReplayed fingerprint.now bytes.now machine.old r.0 r.1.now machine.new) }
-    ensures fault { IfErr result (IsReplayFault fingerprint.now bytes.now machine.old) }
+) -> Result<(), RecoverFault<L::Failure>>
+    requires start { frames.old.position ≡ 0 }
+    requires ahead { L.reliable → IsAhead (L.content log.old) frames.old }
+    ensures ahead { L.reliable → OnOk result (IsAhead (L.content log.old) frames.new) }
+    ensures header { L.reliable → OnOk result (L.content log.old ≡ header fingerprint.now ++ drop frames.new.position (L.content log.old)) }
+    ensures fault { L.reliable → IfErr result (λ fault. (first : State) → IsFaultOf fingerprint.now L.content log.old log.new first fault) }
+    ensures read { L.reliable → IsRead L.content L.may_leave L.moment L.left_since log.old log.new }
 {
-    let mut rest = bytes;
+    let bytes = frames.next_bytes(log, SIGNATURE.len() + fingerprint.len())?;
+    match after_header(fingerprint, bytes.as_slice()) {
+        Ok(_) => Ok(()),
+        Err(fault) => Err(RecoverFault::Header(fault)),
+    }
+}
+
+// Applies the batches of the next records, and returns how many there are and the offset at which the last ends.
+fn replay<L: Log>(
+    frames: &mut Frames,
+    log: &mut L,
+    fingerprint: &[u8; 32],
+    machine: &mut Machine,
+) -> Result<(u64, usize), RecoverFault<L::Failure>>
+    requires ahead { L.reliable → IsAhead (L.content log.old) frames.old }
+    ensures replayed { IfOk result (λ r. HasReplayed fingerprint.now L.reliable (L.content log.old) frames.old.position machine.old machine.new r.0 r.1) }
+    ensures fault { L.reliable → IfErr result (IsReplayFault fingerprint.now (drop frames.old.position (L.content log.old)) machine.old) }
+    ensures read { L.reliable → IsRead L.content L.may_leave L.moment L.left_since log.old log.new }
+{
     let mut count = 0;
-    while let Some((batch, after)) = first_record(alloc, fingerprint, count + 1, rest)? {
+    let mut end = frames.position();
+    while let Some(batch) = next_record(frames, log, fingerprint, count + 1)? {
         match machine.batch(batch.as_slice()) {
             Ok(_) => {}
-            Err(BatchError::Fault(_)) => return Err(ReplayFault::Refused(count + 1)),
-            Err(BatchError::NoMemory) => return Err(ReplayFault::NoMemory),
+            Err(BatchError::Fault(_)) => return Err(RecoverFault::Refused(count + 1)),
+            Err(BatchError::NoMemory) => return Err(RecoverFault::NoMemory),
         }
-        rest = after;
         count += 1;
+        end = frames.position();
     }
-    Ok((count, rest))
+    Ok((count, end))
+}
+
+// Reads a journal from its start, applies its batches, and looks for records after them.
+fn judge<L: Log>(
+    alloc: Global,
+    fingerprint: &[u8; 32],
+    log: &mut L,
+    machine: &mut Machine,
+) -> Result<Judged, RecoverFault<L::Failure>>
+    ensures judged { IfOk result (HasJudged fingerprint.now L.reliable (L.content log.old) machine.old machine.new) }
+    ensures fault { L.reliable → IfErr result (λ fault. IsFaultOf fingerprint.now L.content log.old log.new machine.old fault) }
+    ensures read { L.reliable → IsRead L.content L.may_leave L.moment L.left_since log.old log.new }
+{
+    let mut frames = Frames::new(alloc);
+    if let Err(fault) = read_header(&mut frames, log, fingerprint) {
+        return Err(fault);
+    }
+    let (count, end) = match replay(&mut frames, log, fingerprint, machine) {
+        Ok(replayed) => replayed,
+        Err(fault) => return Err(fault),
+    };
+    frames.go_to(end);
+    if contains_record(&mut frames, log, fingerprint)? {
+        return Err(RecoverFault::Damaged(count));
+    }
+    Ok(Judged {
+        count,
+        end,
+        cut: frames.position() - end,
+    })
+}
+
+// Syncs a log, and judges the journal on it. Bytes that a killed process had written may not have been synced.
+fn judge_synced<L: Log>(
+    alloc: Global,
+    fingerprint: &[u8; 32],
+    log: &mut L,
+    machine: &mut Machine,
+) -> Result<Judged, RecoverFault<L::Failure>>
+    ensures judged { IfOk result (HasJudged fingerprint.now L.reliable (L.content log.old) machine.old machine.new) }
+    ensures durable { L.reliable → OnOk result (Only (L.content log.old) (L.may_leave log.new)) }
+    ensures fault { L.reliable → IfErr result (λ fault. IsFaultOf fingerprint.now L.content log.old log.new machine.old fault) }
+    ensures read { L.reliable → IsRead L.content L.may_leave L.moment L.left_since log.old log.new }
+{
+    match log.sync() {
+        Ok(()) => judge(alloc, fingerprint, log, machine),
+        Err(failure) => Err(RecoverFault::Failed(failure)),
+    }
 }
 
 // Opens a journal. That a file which stands for accepted batches is opened is a clause of `recover`.
@@ -94,31 +168,12 @@ fn open_log<L: Log>(
     ensures any_moment { L.reliable → LeavesOnly L.moment L.left_since log.old log.new
         (λ c. L.may_leave log.old c ⊎ StandAlike fingerprint.now (L.content log.old) c) }
 {
-    let bytes = match read_synced(alloc, log) {
-        Ok(bytes) => bytes,
-        Err(ReadError::NoMemory) => return Err(RecoverFault::NoMemory),
-        Err(ReadError::Failed(failure)) => return Err(RecoverFault::Failed(failure)),
+    let Judged { count, end, cut } = match judge_synced(alloc, fingerprint, log, machine) {
+        Ok(judged) => judged,
+        Err(fault) => return Err(fault),
     };
-    let rest = match after_header(fingerprint, bytes.as_slice()) {
-        Ok(rest) => rest,
-        Err(fault) => return Err(RecoverFault::Header(fault)),
-    };
-    let (count, tail) = match replay(alloc, fingerprint, rest, machine) {
-        Ok(replayed) => replayed,
-        Err(ReplayFault::Refused(number)) => return Err(RecoverFault::Refused(number)),
-        Err(ReplayFault::NoMemory) => return Err(RecoverFault::NoMemory),
-    };
-    match contains_record(alloc, fingerprint, tail) {
-        Ok(false) => {}
-        Ok(true) => return Err(RecoverFault::Damaged(count)),
-        Err(_) => return Err(RecoverFault::NoMemory),
-    }
-    let end = bytes.len() - tail.len();
     match cut_synced(log, end) {
-        Ok(()) => Ok(Recovered {
-            count,
-            cut: tail.len(),
-        }),
+        Ok(()) => Ok(Recovered { count, cut }),
         Err(failure) => Err(RecoverFault::Failed(failure)),
     }
 }

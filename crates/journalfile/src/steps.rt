@@ -1,11 +1,10 @@
 //! Steps of a log that are synced at once.
 
-ghost use Rattle.std.specs.Prelude.{◌≡◌, ◌≤◌, ◌++◌, length, take, IfOk, OnOk};
+ghost use Rattle.std.specs.Prelude.{◌≡◌, ◌≤◌, ◌++◌, length, take, OnOk};
 ghost use Rattle.journalfile.specs.Log.{LeavesOnly, Only};
 ghost use Rattle.journalfile.specs.Steps.{MayAppend, MayCut};
 
-use crate::log::{Log, ReadError};
-use std::alloc::Global;
+use crate::log::Log;
 
 // Adds bytes, which each crash leaves from then on.
 pub(crate) fn append_synced<L: Log>(log: &mut L, bytes: &[u8]) -> Result<(), L::Failure>
@@ -26,20 +25,4 @@ pub(crate) fn cut_synced<L: Log>(log: &mut L, end: usize) -> Result<(), L::Failu
 {
     log.cut(end)?;
     log.sync()
-}
-
-// Reads all bytes, which each crash leaves from then on. Bytes that a killed process had written may not have been synced.
-pub(crate) fn read_synced<L: Log>(
-    alloc: Global,
-    log: &mut L,
-) -> Result<Vec<u8>, ReadError<L::Failure>>
-    ensures bytes { L.reliable → IfOk result (λ bytes. bytes.items ≡ L.content log.old) }
-    ensures content { L.reliable → L.content log.new ≡ L.content log.old }
-    ensures durable { L.reliable → OnOk result (Only (L.content log.new) (L.may_leave log.new)) }
-    ensures any_moment { L.reliable → LeavesOnly L.moment L.left_since log.old log.new (L.may_leave log.old) }
-{
-    match log.sync() {
-        Ok(()) => log.read(alloc),
-        Err(failure) => Err(ReadError::Failed(failure)),
-    }
 }

@@ -1,14 +1,17 @@
 //! A journal that batches are added to.
 
-ghost use Rattle.std.specs.Prelude.{◌≡◌, ◌<◌, ◌-◌, ◌^◌, ◌++◌, [], ◌∷◌, List, ℕ, OnOk, Err};
+ghost use Rattle.std.specs.Prelude.{◌≡◌, ◌<◌, ◌+◌, ◌^◌, ◌++◌, List, ℕ, length, IfOk, OnOk, Err};
+ghost use Rattle.sha2.specs.Sha256.{sha256};
 ghost use Rattle.journalfile.specs.Log.{LeavesOnly};
-ghost use Rattle.journal.specs.Reading.{IsBeforeOrAfter};
+ghost use Rattle.journal.specs.Texts.{texts_of};
+ghost use Rattle.journal.specs.Reading.{StandsForFirst};
+ghost use Rattle.journal.specs.Record.{records};
 ghost use Rattle.journalfile.specs.Settled.{GarblesNoRecord, IsSettled};
 
 use crate::log::Log;
 use crate::steps::append_synced;
-use journal::encode;
-use std::alloc::Global;
+use journal::push_record;
+use std::alloc::{AllocError, Global};
 
 /// The journal of a map, on a log.
 #[derive(Drop)]
@@ -23,7 +26,7 @@ pub struct Journal<L> {
     pub count: u64,
 }
 
-/// Why a batch isn't in the journal.
+/// Why batches aren't in the journal.
 #[derive(Drop)]
 pub enum PutFault<F> {
     /// Memory was refused, and nothing was done.
@@ -32,31 +35,50 @@ pub enum PutFault<F> {
     Failed(F),
 }
 
+// The records of batches that follow so many others.
+fn records_of(
+    alloc: Global,
+    fingerprint: &[u8; 32],
+    before: u64,
+    batches: &[Vec<u8>],
+) -> Result<Vec<u8>, AllocError>
+    requires room { before + length batches.now < 2 ^ 64 }
+    ensures { IfOk result (λ bytes. bytes.items ≡ records sha256 fingerprint.now (before + 1) (texts_of batches.now)) }
+{
+    let mut out = Vec::new(alloc);
+    let mut number = before;
+    for batch in batches {
+        number += 1;
+        push_record(&mut out, fingerprint, number, batch.as_slice())?;
+    }
+    Ok(out)
+}
+
 impl<L: Log> Journal<L> {
-    /// Adds a batch. At `Ok` it is kept: each crash from then on leaves a file that has it.
-    pub fn put(&mut self, batch: &[u8]) -> Result<(), PutFault<L::Failure>>
+    /// Adds batches, in their order, by one sync. At `Ok` all are kept: each crash from then on leaves a file that has them.
+    pub fn put(&mut self, batches: &[Vec<u8>]) -> Result<(), PutFault<L::Failure>>
         // The digests show which bytes a crash has garbled.
         requires recognised { L.reliable → GarblesNoRecord L.garbled self.old.fingerprint }
-        requires settled { L.reliable → (batches : List (List ℕ)) × IsSettled L.content L.may_leave self.old batches }
-        requires room { self.old.count < 2 ^ 64 - 1 }
+        requires settled { L.reliable → (kept : List (List ℕ)) × IsSettled L.content L.may_leave self.old kept }
+        requires room { self.old.count + length batches.now < 2 ^ 64 }
 
-        ensures kept { L.reliable → OnOk result ((batches : List (List ℕ)) → IsSettled L.content L.may_leave self.old batches
-            → IsSettled L.content L.may_leave self.new (batches ++ batch.now ∷ [])) }
+        ensures kept { L.reliable → OnOk result ((kept : List (List ℕ)) → IsSettled L.content L.may_leave self.old kept
+            → IsSettled L.content L.may_leave self.new (kept ++ texts_of batches.now)) }
 
-        // A crash at any moment of the call leaves the batches from before it, with the new one or without it.
-        ensures any_moment { L.reliable → (batches : List (List ℕ)) → IsSettled L.content L.may_leave self.old batches
-            → LeavesOnly L.moment L.left_since self.old.log self.new.log (IsBeforeOrAfter self.old.fingerprint batches batch.now) }
+        // A crash at any moment of the call leaves the batches from before it, and after them the first of the new ones, or none.
+        ensures any_moment { L.reliable → (kept : List (List ℕ)) → IsSettled L.content L.may_leave self.old kept
+            → LeavesOnly L.moment L.left_since self.old.log self.new.log (StandsForFirst self.old.fingerprint kept (texts_of batches.now)) }
 
         ensures no_memory { result ≡ Err PutFault.NoMemory → self.new ≡ self.old }
         ensures fingerprint { self.new.fingerprint ≡ self.old.fingerprint }
     {
-        let Ok(record) = encode(self.alloc, &self.fingerprint, self.count + 1, batch) else {
+        let Ok(records) = records_of(self.alloc, &self.fingerprint, self.count, batches) else {
             return Err(PutFault::NoMemory);
         };
-        if let Err(failure) = append_synced(&mut self.log, record.as_slice()) {
+        if let Err(failure) = append_synced(&mut self.log, records.as_slice()) {
             return Err(PutFault::Failed(failure));
         }
-        self.count += 1;
+        self.count += batches.len() as u64;
         Ok(())
     }
 }

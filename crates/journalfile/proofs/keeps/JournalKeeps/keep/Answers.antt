@@ -1,7 +1,10 @@
-use Rattle.std.proofs.Common.{inl}
+use Rattle.journal.specs.Texts.{texts_of}
+use Rattle.journal.proofs.Standing.{stands_first}
 use Rattle.journalfile.specs.Keeping.{settled_stands}
 use Rattle.journalfile.proofs.keeps.JournalKeeps.keep.Goals as goal
 
-pub returns-then-self-clause-any_moment : goal.returns-then-self-clause-any_moment
-returns-then-self-clause-any_moment g c batches kept file left =
-    inl (settled_stands g.L.Log.content g.L.Log.may_leave c.args.self.now batches (kept left.0).1 file (g.met.L.Log.only_now left.0 c.args.self.now.log file left.1))
+pub returns-then-batches-self-clause-any_moment : goal.returns-then-batches-self-clause-any_moment
+returns-then-batches-self-clause-any_moment g c kept has file left =
+    let journal = c.args.self.now in
+    stands_first journal.fingerprint kept (texts_of c.args.batches.now) file
+    (settled_stands g.L.Log.content g.L.Log.may_leave journal kept (has left.0).1 file (g.met.L.Log.only_now left.0 journal.log file left.1))
