@@ -1,10 +1,10 @@
 -- The steps of an administrator (docs/SERVICE.md, "Sharing").
-use Rattle.std.specs.Prelude.{◌≡◌, ℕ, List, [], ◌∷◌, ◌++◌, Some, IsSome, Err}
+use Rattle.std.specs.Prelude.{◌≡◌, ◌≤◌, ℕ, List, [], ◌∷◌, ◌++◌, length, take, Some, IsSome, Err}
 use Rattle.batches.specs.Batch.{State, batched, accepted}
-use Rattle.batches.specs.declared.fault.BatchError.{BatchError}
-use Rattle.batches.specs.declared.fault.BatchError.TheVariants as batch_error
 use Rattle.batches.specs.declared.fault.BatchFault.{BatchFault}
 use Rattle.sharing.specs.Sharing.{after}
+use Rattle.mapshare.specs.Checking.{StopsAt}
+use Rattle.mapshare.specs.declared.checking.Accepted.{Accepted}
 use Rattle.mapshare.specs.declared.admin.Submitted.{Submitted}
 use Rattle.mapshare.specs.declared.admin.Submitted.TheVariants as submitted
 use Rattle.mapshare.specs.declared.admin.Retried.{Retried}
@@ -27,6 +27,10 @@ IsPublished old receipt new = (receipt ≡ all_of old) × (new ≡ record { publ
 abbrev pub with_batch : List ℕ → Batches → Batches
 with_batch batch old = record { published = old.published; pending = old.pending ++ batch ∷ [] }
 
+-- more batches are pending, in their order
+abbrev pub with_batches : List (List ℕ) → Batches → Batches
+with_batches more old = record { published = old.published; pending = old.pending ++ more }
+
 -- there is a state after all batches
 abbrev pub IsAccepted : State → Batches → Type 0
 IsAccepted opening batches = IsSome (after accepted opening (all_of batches))
@@ -36,10 +40,12 @@ abbrev pub IsRefused : State → Batches → List ℕ → BatchFault → Type 0
 IsRefused opening batches batch fault =
     (state : State) × (after accepted opening (all_of batches) ≡ Some state) × (batched batch state ≡ Err fault)
 
--- the error is such a fault, or memory was refused
-abbrev pub IsFaultOf : State → Batches → List ℕ → BatchError → Type 0
-IsFaultOf opening batches batch (batch_error.Fault fault) = IsRefused opening batches batch fault
-IsFaultOf opening batches batch batch_error.NoMemory = Unit {0}
+-- the first of some batches were accepted, and are the last that are pending
+pub record HasAccepted (opening : State) (old : Batches) (batches : List (List ℕ)) (found : Accepted) (new : Batches) : Type 0 where
+  pub within : found.count ≤ length batches
+  pub pending : new ≡ with_batches (take found.count batches) old
+  pub made : IsAccepted opening new
+  pub stop : StopsAt (IsRefused opening new) batches found.count found.refused
 
 -- the result of submitting a batch. It was accepted, and published with all that was pending, or it is pending itself. Or it was refused with its
 -- first fault, or out of memory, and nothing has changed

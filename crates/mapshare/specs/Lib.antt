@@ -1,5 +1,6 @@
 pub mod Answerer
 pub mod Unopened
+pub mod Checking
 pub mod Admin
 pub mod Replica
 pub mod Kept

@@ -1,10 +1,16 @@
-ghost use Rattle.std.specs.Prelude.{◌≡◌, ◌↔◌, ◌⊎◌, ◌++◌, ℕ, List, [], ◌∷◌, drop, Some, IsSome, IfOk, IfErr, IsTrue, MatchBool, MatchResult, OnErr, OnOk};
+ghost use Rattle.std.specs.Prelude.{◌≡◌, ◌↔◌, ◌⊎◌, ◌+◌, ◌≤◌, ◌<◌, ◌++◌, ℕ, List, [], ◌∷◌, drop, length, take};
+ghost use Rattle.std.specs.Prelude.{IsSome, IfOk, IsTrue, MatchBool, MatchResult, OnErr, OnOk};
+ghost use Rattle.std.specs.VecDeque.{deque_len, deque_capacity};
+ghost use mathlib.Core.List.{IsPrefix};
 ghost use Rattle.sharing.specs.Sharing.{after};
 ghost use Rattle.batches.specs.Batch.{accepted};
-ghost use Rattle.mapshare.specs.Admin.{HasRetried, HasSubmitted, IsAccepted, IsFaultOf, IsIdle, IsPublished, all_of, with_batch};
-ghost use Rattle.mapshare.specs.Kept.{HasKept, IsAcceptFault, IsUnkept};
+ghost use Rattle.history.specs.declared.prefix.TheConstants.{MAX_HISTORY};
+ghost use Rattle.journal.specs.Texts.{texts_of};
+ghost use Rattle.mapshare.specs.Admin.{HasAccepted, HasRetried, HasSubmitted, IsAccepted, IsIdle, IsPublished, all_of, with_batch, with_batches};
+ghost use Rattle.mapshare.specs.Kept.{HasKept};
 ghost use Rattle.mapshare.specs.Queue.{IsChain};
 
+use crate::checking::{Accepted, check, keep_and_copy};
 use crate::receipt::Receipt;
 use crate::replica::{Replica, ReplicaValue};
 use crate::rule::{MapWriter, Moves, Ruled, Sharing, View};
@@ -16,6 +22,7 @@ use mapmachine::{BatchError, BatchFault, Machine};
 use std::alloc::{AllocError, Global};
 use std::collections::VecDeque;
 use std::marker::Model;
+use std::slice::from_ref;
 use std::sync::Wait;
 
 /// The result of submitting a batch.
@@ -31,20 +38,9 @@ pub enum Submitted<S: Sharing> {
     NoMemory,
 }
 
-/// The keeper of batches failed. Whether the submitted batch is kept is unknown, and nothing was published.
+/// The keeper of batches failed. How many of the batches are kept is unknown, and nothing was published.
 #[derive(Clone, Copy, Debug, PartialEq, Eq)]
 pub struct KeepFailed;
-
-// Why a batch isn't accepted.
-#[derive(Clone, Copy)]
-pub(crate) enum AcceptFault {
-    // It has this first fault.
-    Fault(BatchFault),
-    // Memory was refused.
-    NoMemory,
-    // The keeper failed.
-    Failed,
-}
 
 /// The result of publishing the pending batches.
 #[derive(Drop)]
@@ -88,7 +84,9 @@ where
 
     ghost view = { λ a. record { published = a.published; pending = drop (length a.published) a.last } };
 
-    ghost invariant = { λ a. (a.writer.desk.shown.value.prefix ≡ a.published) × IsChain S.opening a.published (drop a.writer.behind a.writer.log.items ++ a.queue.items) a.last × (after accepted S.opening a.last ≡ Some a.checked) };
+    ghost invariant = { λ a. (a.writer.desk.shown.value.prefix ≡ a.published)
+        × IsChain S.opening a.published (drop a.writer.behind a.writer.log.items ++ a.queue.items) a.last
+        × (after accepted S.opening a.last ≡ Some a.checked) };
 }
 
 // Shows readers all replicas of the writer, which end with the last prefix.
@@ -100,7 +98,8 @@ fn show_all<S: Sharing, R: Wait>(
     requires chain { IsChain S.opening writer.desk.shown.value.prefix (drop writer.behind writer.log.items) last.now }
     ensures prefix { OnOk result.1 (result.0.desk.shown.value.prefix ≡ last.now) }
     ensures none_left { OnOk result.1 (drop result.0.behind result.0.log.items ≡ []) }
-    ensures held { OnErr result.1 ((result.0.desk.shown.value ≡ writer.desk.shown.value) × (drop result.0.behind result.0.log.items ≡ drop writer.behind writer.log.items)) }
+    ensures held { OnErr result.1 ((result.0.desk.shown.value ≡ writer.desk.shown.value)
+        × (drop result.0.behind result.0.log.items ≡ drop writer.behind writer.log.items)) }
 {
     let _last = last;
     writer.publish_as::<Moves, R>(rt)
@@ -121,6 +120,31 @@ fn fill<S: Sharing>(writer: &mut MapWriter<S>, queue: &mut VecDeque<Replica<S>>)
     true
 }
 
+// How many more batches may be accepted; there is room for one replica more in the queue then.
+fn room_for_one<S: Sharing>(queue: &mut VecDeque<Replica<S>>, last: &Prefix<S>) -> u64
+    ensures items { queue.new.items ≡ queue.old.items }
+    ensures reserved { 1 ≤ result → deque_len queue.new < deque_capacity queue.new }
+    ensures history { 1 ≤ result → length last.now + result ≤ MAX_HISTORY }
+{
+    if queue.reserve(1).is_err() {
+        return 0;
+    }
+    MAX_HISTORY.saturating_sub(last.len())
+}
+
+// Adds batches after a prefix, if this is all of the history, and returns whether it did.
+fn add_all<S: Sharing>(prefix: &mut Prefix<S>, history: &History<S>, batches: &[Vec<u8>]) -> bool
+    requires room { length prefix.old + length batches.now ≤ MAX_HISTORY }
+    ensures { IsTrue result → prefix.new ≡ prefix.old ++ texts_of batches.now }
+{
+    for batch in batches {
+        if !prefix.add(history, batch) {
+            return false;
+        }
+    }
+    true
+}
+
 // Shows readers all waiting replicas, which end with the last prefix, and returns whether it did.
 fn show_waiting<S: Sharing, R: Wait>(
     rt: &R,
@@ -129,7 +153,10 @@ fn show_waiting<S: Sharing, R: Wait>(
     last: &Prefix<S>,
 ) -> (MapWriter<S>, bool)
     requires chain { IsChain S.opening writer.desk.shown.value.prefix (drop writer.behind writer.log.items ++ queue.old.items) last.now }
-    ensures { MatchBool result.1 ((result.0.desk.shown.value.prefix ≡ last.now) × (drop result.0.behind result.0.log.items ++ queue.new.items ≡ [])) ((result.0.desk.shown.value.prefix ≡ writer.desk.shown.value.prefix) × (drop result.0.behind result.0.log.items ++ queue.new.items ≡ drop writer.behind writer.log.items ++ queue.old.items)) }
+    ensures { MatchBool result.1
+        ((result.0.desk.shown.value.prefix ≡ last.now) × (drop result.0.behind result.0.log.items ++ queue.new.items ≡ []))
+        ((result.0.desk.shown.value.prefix ≡ writer.desk.shown.value.prefix)
+        × (drop result.0.behind result.0.log.items ++ queue.new.items ≡ drop writer.behind writer.log.items ++ queue.old.items)) }
 {
     if !fill(&mut writer, queue) {
         return (writer, false);
@@ -188,67 +215,43 @@ impl<S: Sharing> Admin<S> {
         Receipt::new(self.published.copy(), self.checked.sequence())
     }
 
-    // The machine after all accepted batches and this one, if it has no fault there. It shares features with the one before.
-    fn after_batch(&self, batch: &Vec<u8>) -> Result<Machine, BatchError>
-        ensures accepted { IfOk result (λ m. after accepted S.opening (all_of (with_batch batch.now.items self.now)) ≡ Some m) }
-        ensures refused { IfErr result (IsFaultOf S.opening self.now batch.now.items) }
-    {
-        self.checked.after(batch.as_slice())
-    }
-
-    // Keeps a batch, and returns the machine after all accepted batches and this one, twice: the next batch is checked in the one, and readers
-    // get the other. All memory is taken before.
-    fn keep<K: Keeps>(
-        &self,
+    /// Accepts batches: each is checked in the state after all that were accepted before it. Those before the first that isn't accepted are kept, by
+    /// one sync, and are the last that are pending then; `retry` publishes them. Where memory is refused, none of them may be accepted. Where none is
+    /// accepted, the keeper isn't called.
+    ///
+    /// The error is that some of them may be kept, and that nothing was published. Nothing may be submitted after it.
+    pub fn accept_kept<K: Keeps>(
+        &mut self,
         keeper: &mut K,
-        batch: &Vec<u8>,
-    ) -> Result<(Machine, Machine), AcceptFault>
-        requires ready { (batches : List (List ℕ)) × K.keeps keeper.old batches }
-        ensures accepted { IfOk result (λ both. (after accepted S.opening (all_of (with_batch batch.now.items self.now)) ≡ Some both.0) × (both.1 ≡ both.0)) }
-        ensures refused { IfErr result (IsAcceptFault S.opening self.now batch.now.items) }
-        ensures kept { OnOk result ((batches : List (List ℕ)) → K.keeps keeper.old batches → K.keeps keeper.new (batches ++ batch.now.items ∷ [])) }
-        ensures unkept { IfErr result (λ fault. IsUnkept fault keeper.old keeper.new) }
-        ensures any_moment { (batches : List (List ℕ)) → K.keeps keeper.old batches → (file : List ℕ) → K.may_leave keeper.old keeper.new file
-            → K.stands keeper.old file batches
-            ⊎ (IsAccepted S.opening (with_batch batch.now.items self.now) × K.stands keeper.old file (batches ++ batch.now.items ∷ [])) }
-    {
-        let checked = match self.after_batch(batch) {
-            Ok(checked) => checked,
-            Err(BatchError::Fault(fault)) => return Err(AcceptFault::Fault(fault)),
-            Err(BatchError::NoMemory) => return Err(AcceptFault::NoMemory),
-        };
-        let Ok(machine) = checked.copy() else {
-            return Err(AcceptFault::NoMemory);
-        };
-        match keeper.keep(batch.as_slice()) {
-            Ok(()) => Ok((checked, machine)),
-            Err(KeepFault::NoMemory) => Err(AcceptFault::NoMemory),
-            Err(KeepFault::Failed) => Err(AcceptFault::Failed),
-        }
-    }
+        batches: &[Vec<u8>],
+    ) -> Result<Accepted, KeepFailed>
+        requires ready { (kept : List (List ℕ)) × K.keeps keeper.old kept }
+        ensures accepted { IfOk result (λ accepted. HasAccepted S.opening self.old (texts_of batches.now) accepted self.new) }
+        ensures failed { OnErr result ((count : ℕ) × (1 ≤ count) × (count ≤ length batches.now)
+            × IsAccepted S.opening (with_batches (take count (texts_of batches.now)) self.old) × (self.new ≡ self.old)) }
+        ensures kept { (kept : List (List ℕ)) → K.keeps keeper.old kept
+            → IfOk result (λ accepted. K.keeps keeper.new (kept ++ take accepted.count (texts_of batches.now))) }
+        ensures unkept { IfOk result (λ accepted. accepted.count ≡ 0 → keeper.new ≡ keeper.old) }
 
-    // Accepts a batch: it is kept, and the last that is pending then.
-    fn accept<K: Keeps>(&mut self, keeper: &mut K, batch: Vec<u8>) -> Result<(), AcceptFault>
-        requires ready { (batches : List (List ℕ)) × K.keeps keeper.old batches }
-        ensures accepted { OnOk result (IsAccepted S.opening self.new × (self.new ≡ with_batch batch.items self.old)) }
-        ensures refused { IfErr result (IsAcceptFault S.opening self.old batch.items) }
-        ensures unchanged { OnErr result (self.new ≡ self.old) }
-        ensures kept { OnOk result ((batches : List (List ℕ)) → K.keeps keeper.old batches → K.keeps keeper.new (batches ++ batch.items ∷ [])) }
-        ensures unkept { IfErr result (λ fault. IsUnkept fault keeper.old keeper.new) }
-        ensures any_moment { (batches : List (List ℕ)) → K.keeps keeper.old batches → (file : List ℕ) → K.may_leave keeper.old keeper.new file
-            → K.stands keeper.old file batches
-            ⊎ (IsAccepted S.opening (with_batch batch.items self.old) × K.stands keeper.old file (batches ++ batch.items ∷ [])) }
+        // A crash at any moment leaves the batches, and after them the first of these, which are accepted.
+        ensures any_moment { (kept : List (List ℕ)) → K.keeps keeper.old kept → (file : List ℕ) → K.may_leave keeper.old keeper.new file
+            → (first : List (List ℕ)) × IsPrefix first (texts_of batches.now) × IsAccepted S.opening (with_batches first self.old)
+            × K.stands keeper.old file (kept ++ first) }
     {
-        if self.last.len() >= MAX_HISTORY || self.queue.reserve(1).is_err() {
-            return Err(AcceptFault::NoMemory);
-        }
-        let (checked, machine) = match self.keep(keeper, &batch) {
-            Ok(both) => both,
-            Err(fault) => return Err(fault),
+        let room = room_for_one(&mut self.queue, &self.last);
+        let (accepted, last) = check(&self.checked, room, batches);
+        let Some(checked) = last else {
+            return Ok(accepted);
+        };
+        let first = &batches[..accepted.count];
+        let machine = match keep_and_copy(&checked, keeper, first) {
+            Ok(machine) => machine,
+            Err(KeepFault::NoMemory) => return Ok(Accepted::out_of_memory()),
+            Err(KeepFault::Failed) => return Err(KeepFailed),
         };
         let mut prefix = self.last.copy();
-        if !prefix.add(&self.history, &batch) {
-            return Err(AcceptFault::Failed);
+        if !add_all(&mut prefix, &self.history, first) {
+            return Err(KeepFailed);
         }
         let replica = Replica {
             machine,
@@ -257,7 +260,7 @@ impl<S: Sharing> Admin<S> {
         self.queue.push_back_reserved(replica);
         self.checked = checked;
         self.last = prefix;
-        Ok(())
+        Ok(accepted)
     }
 
     // Shows readers all pending batches, and returns whether it did.
@@ -330,11 +333,14 @@ impl<S: Sharing> Admin<S> {
             → K.stands keeper.old file batches
             ⊎ (IsAccepted S.opening (with_batch batch.items self) × K.stands keeper.old file (batches ++ batch.items ∷ [])) }
     {
-        match self.accept(keeper, batch) {
-            Err(AcceptFault::Fault(fault)) => return (self, Ok(Submitted::Refused(fault))),
-            Err(AcceptFault::NoMemory) => return (self, Ok(Submitted::NoMemory)),
-            Err(AcceptFault::Failed) => return (self, Err(KeepFailed)),
-            Ok(()) => {}
+        let refused = match self.accept_kept(keeper, from_ref(&batch)) {
+            Ok(accepted) => accepted.refused,
+            Err(failed) => return (self, Err(failed)),
+        };
+        match refused {
+            None => {}
+            Some(BatchError::Fault(fault)) => return (self, Ok(Submitted::Refused(fault))),
+            Some(BatchError::NoMemory) => return (self, Ok(Submitted::NoMemory)),
         }
         let (admin, done) = self.publish(rt);
         if done {
