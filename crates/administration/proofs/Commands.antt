@@ -1,13 +1,14 @@
 -- The first command in the bytes of a client.
-use Rattle.std.proofs.Common.{MatchOption, IfSome, ◌≡◌, ℕ, suc, ◌+◌, ◌-◌, ◌<◌, Bool, true, false, List, [], ◌∷◌, ◌++◌, length, take, drop, Option, None, Some, nat_le, nat_lt, refl, arith, take_all, append_assoc, length-append}
+use Rattle.std.proofs.Common.{MatchOption, IfSome, ◌≡◌, ℕ, zero, suc, ◌+◌, ◌-◌, ◌<◌, ◌≤◌, Bool, true, false, List, [], ◌∷◌, ◌++◌, length, take, drop, Option, None, Some, nat_le, nat_lt, refl, arith, take_all, append_assoc, length-append, length-drop, ap, sym, ◌∙◌}
 use Rattle.std.proofs.Math.Seq.{drop-append_seam, take-append-add, take-append_seam}
 use Rattle.std.proofs.lemmas.Bool.Decides.{nat_tests}
 use Rattle.std.proofs.lemmas.List.Folds.{list_any-append}
 use Rattle.std.proofs.Common.{Vec, Global}
 use Rattle.std.proofs.KnownBytes.{Consumes-trans}
 use Rattle.std.specs.Io.KnownBytes.{Consumes}
-use Rattle.std.specs.List.{list_any}
+use Rattle.std.specs.List.{list_any, position_or_len}
 use Rattle.batches.specs.Command.{is_line_end}
+use Rattle.batches.proofs.Cutting.{after-cut}
 use Rattle.batches.proofs.Writing.{cut-after, cut-before}
 use Rattle.administration.specs.Commands.{Submit, first_command, line_of}
 use Rattle.administration.specs.Reading.{HasEnded, IsCommandOf, IsLineOf}
@@ -75,3 +76,24 @@ pub held-on : (old new : Option (Vec ℕ Global)) (bytes piece : List ℕ) → M
 held-on None new bytes piece m held = rw m tt
 held-on (Some v) None bytes piece m held = tt
 held-on (Some v) (Some w) bytes piece m held = rw (← held) m
+
+-- an LF that comes early is among the first bytes
+early : (bytes : List ℕ) (n : ℕ) → position_or_len is_line_end bytes < length bytes → position_or_len is_line_end bytes < n → list_any is_line_end (take n bytes) ≡ true
+early [] n within less = absurd (omega (arith, within))
+early (byte ∷ bytes) zero within less = absurd (omega (arith, less))
+early (byte ∷ bytes) (suc n) within less = by (is_line_end byte) refl (λ e. early bytes n (omega (arith, rw e at within)) (omega (arith, rw e at less)))
+  where
+    by : (b : Bool) → is_line_end byte ≡ b → (is_line_end byte ≡ false → list_any is_line_end (take n bytes) ≡ true) → list_any is_line_end (byte ∷ take n bytes) ≡ true
+    by true e others = rw e refl
+    by false e others = rw e (others e)
+
+-- a line that ends early, and as many bytes after it as it announces, are a command
+pub starts-batch : (bytes rest after : List ℕ) (end count : ℕ) → end ≡ position_or_len is_line_end bytes → rest ≡ drop end bytes → 1 ≤ length rest → after ≡ take (length rest - 1) (drop 1 rest) → end < 33
+    → line.Batch count ≡ line_of (take end bytes) → count ≤ length after → first_command bytes ≡ Some (Submit (take count after), drop count after)
+unfolding first_command
+starts-batch bytes rest after end count is back some then short says fits =
+    let there : position_or_len is_line_end bytes < length bytes = omega (arith, is, length-drop end bytes, ap length back, some) in
+    let soon : list_any is_line_end (take 33 bytes) ≡ true = early bytes 33 there (omega (arith, is, short)) in
+    let next : after ≡ drop (end + 1) bytes = then ∙ (after-cut is_line_end bytes rest end is back ∙ ap (λ (n : ℕ). drop (n + 1) bytes) (sym is)) in
+    let enough : nat_lt (length after) count ≡ false = grind (arith, nat_tests, fits) in
+    rw (soon, ← is, ← says, ← next, enough) refl

@@ -1,53 +1,86 @@
 -- The effects of an administrator's client whose batches are kept (docs/SERVICE.md, "Administration" and "Journal").
-use Rattle.std.specs.Prelude.{◌≡◌, ◌⊎◌, ℕ, ◌+◌, false, List, [], ◌++◌, length, Option, Some, codes}
+use Rattle.std.specs.Prelude.{◌≡◌, ◌⊎◌, ℕ, zero, suc, ◌-◌, ◌≤◌, false, List, [], ◌∷◌, ◌++◌, length, map, take, Option, None, Some, codes}
 use Rattle.std.specs.List.{list_any}
 use Rattle.streams.specs.Sent.{IsSent, IsCutSomewhere}
 use Rattle.batches.specs.Batch.{State}
-use Rattle.mapshare.specs.Admin.{Batches, IsAccepted, all_of, with_batch}
-use Rattle.administration.specs.Commands.{Command, Submit, Publish, Malformed, first_command}
-use Rattle.administration.specs.Serving.{HasDoneAll, is_malformed}
+use Rattle.mapshare.specs.Admin.{Batches, IsAccepted, all_of, with_batches}
+use Rattle.administration.specs.Commands.{Command, Submit}
+use Rattle.administration.specs.Reading.{StartWith}
+use Rattle.administration.specs.Serving.{AreDone, AreSubmitted, HasDoneAll, is_malformed, lines_of}
 use Rattle.administration.specs.declared.done.Done.{Done}
 use Rattle.administration.specs.declared.done.Done.TheVariants as done
-use Rattle.mapshare.specs.declared.admin.Submitted.{Submitted}
-use Rattle.mapshare.specs.declared.admin.Submitted.TheVariants as submitted
-
--- the result of a batch that was submitted: where it is published, the sequence is the one after all batches of the receipt
-abbrev pub done_of : {S : Type 0} → State → Submitted S → Done
-done_of opening (submitted.Published receipt) = done.Published (opening.sequence + length receipt)
-done_of opening submitted.Held = done.Held
-done_of opening (submitted.Refused fault) = done.Refused fault
-done_of opening submitted.NoMemory = done.NoMemory
+use Rattle.administration.specs.declared.group.TheConstants.{GROUP}
+use Rattle.administration.specs.declared.results.Front.{Front}
+use Rattle.batches.specs.declared.fault.BatchError.{BatchError}
+use Rattle.batches.specs.declared.fault.BatchError.TheVariants as error
 
 -- the batches accepted from one state to a later one are kept, after those kept before
 abbrev pub IsKeptSince : {K : Type 0} → (K → List (List ℕ) → Type 0) → Batches → List (List ℕ) → Batches → K → Type 0
 IsKeptSince keeps old kept new keeper = (more : List (List ℕ)) × (all_of new ≡ all_of old ++ more) × keeps keeper (kept ++ more)
 
--- the command is to submit a batch, which has no fault; the keeper failed, and nothing is published
-abbrev pub HasFailed : State → Batches → Command → Batches → Type 0
-HasFailed opening old (Submit batch) new = IsAccepted opening (with_batch batch old) × (new ≡ old)
-HasFailed opening old Publish new = ⊥
-HasFailed opening old Malformed new = ⊥
+-- the results of so many batches that were accepted together: published, with the sequence after the last of them, or pending
+abbrev pub accepted_results : Option ℕ → ℕ → List Done
+accepted_results sequence zero = []
+accepted_results None (suc count) = done.Held ∷ accepted_results None count
+accepted_results (Some last) (suc count) = done.Published (last - count) ∷ accepted_results (Some last) count
 
--- the line that reports this
-abbrev pub failed_line : List ℕ
-failed_line = codes "FAILED\n"
+-- the result of the batch after them, if it isn't accepted
+abbrev pub refused_results : Option BatchError → List Done
+refused_results None = []
+refused_results (Some (error.Fault fault)) = done.Refused fault ∷ []
+refused_results (Some error.NoMemory) = done.NoMemory ∷ []
 
--- the line was sent, or a prefix of it, where the writer failed
-abbrev pub IsReported : {O : Type 0} → (O → Option (List ℕ)) → (O → ℕ) → O → O → Type 0
-IsReported held taken old new = IsSent held taken old failed_line new ⊎ IsCutSomewhere held taken old failed_line new
+abbrev pub results_of : Front → List Done
+results_of front = accepted_results front.sequence front.accepted ++ refused_results front.refused
 
--- the keeper failed: all commands before the last are done, all of their lines were sent, and none of them is malformed. The last is a batch that may
--- be kept or not
-pub record IsFailed {O : Type 0} (opening : State) (before after : Option (List ℕ)) (held : O → Option (List ℕ)) (taken : O → ℕ) (old : Batches) (first : O) (new : Batches) (last : O) : Type 0 where
-  pub commands : List Command
-  pub lines : List ℕ
-  pub bytes : List ℕ
-  pub between : Batches
-  pub done : HasDoneAll opening before after commands old lines bytes between
-  pub well_formed : list_any is_malformed commands ≡ false
-  pub command : Command
-  pub front : first_command bytes ≡ Some (command, [])
-  pub then : HasFailed opening between command new
-  pub middle : O
-  pub sent : IsSent held taken first lines middle
-  pub reported : IsReported held taken middle last
+-- some first of these batches have no fault, one at least; the keeper failed
+abbrev pub HasFailed : State → Batches → List (List ℕ) → Type 0
+HasFailed opening old batches = (count : ℕ) × (1 ≤ count) × (count ≤ length batches) × IsAccepted opening (with_batches (take count batches) old)
+
+-- the lines that report this, one for each of so many batches
+abbrev pub failed_lines : ℕ → List ℕ
+failed_lines zero = []
+failed_lines (suc count) = codes "FAILED\n" ++ failed_lines count
+
+-- the lines were sent, or the first bytes of them, where the writer failed
+abbrev pub IsReported : {O : Type 0} → (O → Option (List ℕ)) → (O → ℕ) → O → List ℕ → O → Type 0
+IsReported held taken old lines new = IsSent held taken old lines new ⊎ IsCutSomewhere held taken old lines new
+
+module _ {O : Type 0} (opening : State) (before after : Option (List ℕ)) (held : O → Option (List ℕ)) (taken : O → ℕ) where
+  -- some commands are done, none of them malformed, and all of their lines were sent. The bytes after them were read, too
+  pub record HasSent (old : Batches) (first : O) (bytes : List ℕ) (new : Batches) (last : O) : Type 0 where
+    pub commands : List Command
+    pub lines : List ℕ
+    pub done : HasDoneAll opening before after commands old lines bytes new
+    pub well_formed : list_any is_malformed commands ≡ false
+    pub sent : IsSent held taken first lines last
+
+  -- the writer failed: of the commands that were read last, 64 at most, all are done, and only the first bytes of their lines were sent
+  pub record IsCutShort (old : Batches) (first : O) (new : Batches) (last : O) : Type 0 where
+    pub bytes : List ℕ
+    pub between : Batches
+    pub middle : O
+    pub earlier : HasSent old first bytes between middle
+    pub commands : List Command
+    pub lines : List ℕ
+    pub rest : List ℕ
+    pub done : AreDone opening commands between bytes lines rest new
+    pub few : length commands ≤ GROUP
+    pub cut : IsCutSomewhere held taken middle lines last
+
+  -- the keeper failed: of the batches that were read last, 64 at most, the first are done. Each of the others may be kept or not, and none of them is
+  -- published. The lines of all were sent, or the first bytes of them, where the writer failed, too
+  pub record IsFailed (old : Batches) (first : O) (new : Batches) (last : O) : Type 0 where
+    pub bytes : List ℕ
+    pub between : Batches
+    pub middle : O
+    pub earlier : HasSent old first bytes between middle
+    pub batches : List (List ℕ)
+    pub failed : List (List ℕ)
+    pub results : List Done
+    pub rest : List ℕ
+    pub begins : StartWith (map Submit (batches ++ failed)) bytes rest
+    pub few : length (batches ++ failed) ≤ GROUP
+    pub done : AreSubmitted opening between batches results new
+    pub fails : HasFailed opening new failed
+    pub reported : IsReported held taken middle (lines_of results ++ failed_lines (length failed)) last

@@ -1,10 +1,14 @@
 -- How commands are read from a stream (docs/SERVICE.md, "Administration").
-use Rattle.std.specs.Prelude.{◌≡◌, ◌⊎◌, ℕ, Bool, true, List, ◌++◌, Option, Some, IfSome}
+use Rattle.std.specs.Prelude.{◌≡◌, ◌⊎◌, ℕ, Bool, true, List, [], ◌∷◌, ◌++◌, Option, None, Some, IfSome, map}
 use Rattle.std.specs.Io.KnownBytes.{Consumes, IsAtEnd}
 use Rattle.administration.specs.Commands.{Command, Submit, Publish, Malformed, command_of, first_command}
 use Rattle.administration.specs.declared.line.ClientLine.{ClientLine}
 use Rattle.administration.specs.declared.reading.ReadCommand.{ReadCommand}
 use Rattle.administration.specs.declared.reading.ReadCommand.TheVariants as asked
+use Rattle.administration.specs.declared.group.Next.{Next}
+use Rattle.administration.specs.declared.group.Next.TheVariants as next
+use Rattle.administration.specs.declared.group.Other.{Other}
+use Rattle.administration.specs.declared.group.Other.TheVariants as other
 
 -- these bytes of a client were read, and then no more came: it ended, or the reader failed
 pub record HasEnded (before after : Option (List ℕ)) (failed : Bool) (bytes : List ℕ) : Type 0 where
@@ -25,3 +29,34 @@ IsHeldOf (Submit bytes) (asked.Batch held) = IfSome held (λ batch. batch.items 
 IsHeldOf Publish asked.Retry = Unit {0}
 IsHeldOf Malformed asked.Malformed = Unit {0}
 IsHeldOf command asked = ⊥
+
+-- some bytes begin with these commands, and a rest follows
+abbrev pub StartWith : List Command → List ℕ → List ℕ → Type 0
+StartWith [] bytes rest = rest ≡ bytes
+StartWith (command ∷ commands) bytes rest = (after : List ℕ) × (first_command bytes ≡ Some (command, after)) × StartWith commands after rest
+
+-- whatever follows these bytes, they are those of the commands
+abbrev pub AreCommandsOf : List ℕ → List Command → Type 0
+AreCommandsOf bytes commands = (more : List ℕ) → StartWith commands (bytes ++ more) more
+
+-- a command that keeps no batch: memory was refused for the bytes of one, or it is none
+abbrev pub IsOther : Command → Other → Type 0
+IsOther (Submit bytes) other.NoMemory = Unit {0}
+IsOther Publish other.Retry = Unit {0}
+IsOther Malformed other.Malformed = Unit {0}
+IsOther command what = ⊥
+
+-- after some batches nothing more was read, or another command, or the end
+abbrev pub HasNext : Option (List ℕ) → Option (List ℕ) → Bool → Next → Type 0
+HasNext before after failed next.Nothing = after ≡ before
+HasNext before after failed (next.Command what) =
+    (bytes : List ℕ) × (command : Command) × Consumes before after bytes × IsCommandOf bytes command × IsOther command what
+HasNext before after failed next.End = (bytes : List ℕ) × HasEnded before after failed bytes × (first_command bytes ≡ None)
+
+-- these batches were read, and what follows them
+pub record HasReadGroup (before after : Option (List ℕ)) (failed : Bool) (batches : List (List ℕ)) (then : Next) : Type 0 where
+  pub bytes : List ℕ
+  pub between : Option (List ℕ)
+  pub came : Consumes before between bytes
+  pub commands : AreCommandsOf bytes (map Submit batches)
+  pub next : HasNext between after failed then

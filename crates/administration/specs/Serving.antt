@@ -6,6 +6,8 @@ use Rattle.streams.specs.Sent.{IsSent, IsCutSomewhere}
 use Rattle.batches.specs.Batch.{State}
 use Rattle.mapmachine.specs.declared.reply.Reply.TheVariants as reply
 use Rattle.mapshare.specs.Admin.{Batches, IsAccepted, IsRefused, all_of, with_batch}
+use Rattle.mapshare.specs.declared.admin.Submitted.{Submitted}
+use Rattle.mapshare.specs.declared.admin.Submitted.TheVariants as submitted
 use Rattle.scripts.specs.Transcript.{reply_text}
 use Rattle.administration.specs.Commands.{Command, Submit, Publish, Malformed, first_command}
 use Rattle.administration.specs.declared.done.Done.{Done}
@@ -30,6 +32,13 @@ HasDone opening old Publish done.Held new = (old.pending ≢ []) × (new ≡ old
 HasDone opening old Publish done.Idle new = (old.pending ≡ []) × (new ≡ old)
 HasDone opening old Malformed done.Malformed new = new ≡ old
 HasDone opening old command what new = ⊥
+
+-- the result of a batch that was submitted: where it is published, the sequence is the one after all batches of the receipt
+abbrev pub done_of : {S : Type 0} → State → Submitted S → Done
+done_of opening (submitted.Published receipt) = done.Published (opening.sequence + length receipt)
+done_of opening submitted.Held = done.Held
+done_of opening (submitted.Refused fault) = done.Refused fault
+done_of opening submitted.NoMemory = done.NoMemory
 
 -- the line that reports the result of a command
 abbrev pub done_line : Done → List ℕ
@@ -88,3 +97,15 @@ pub record IsStopped {O : Type 0} (opening : State) (before after : Option (List
   pub middle : O
   pub sent : IsSent held taken first lines middle
   pub cut : IsCutSomewhere held taken middle (done_line what) last
+
+-- one after the other these batches led from some to others, and these are their results
+abbrev pub AreSubmitted : State → Batches → List (List ℕ) → List Done → Batches → Type 0
+AreSubmitted opening old [] [] new = new ≡ old
+AreSubmitted opening old (batch ∷ batches) (what ∷ results) new =
+    (between : Batches) × HasDone opening old (Submit batch) what between × AreSubmitted opening between batches results new
+AreSubmitted opening old batches results new = ⊥
+
+-- the lines of some results
+abbrev pub lines_of : List Done → List ℕ
+lines_of [] = []
+lines_of (what ∷ results) = done_line what ++ lines_of results

@@ -1,109 +1,139 @@
 //! Serving a client whose batches are kept.
 
-ghost use Rattle.std.specs.Prelude.{◌≡◌, ℕ, List, OnOk, IfOk, IfSome, IsErrOf, MatchResult, true};
-ghost use Rattle.streams.specs.Sent.{IsSent, IsCutSomewhere};
-ghost use Rattle.mapshare.specs.Admin.{Batches, IsAccepted, all_of, with_batch};
-ghost use Rattle.administration.specs.Commands.{Command, Submit, Publish, first_command};
-ghost use Rattle.administration.specs.Keeping.{HasFailed, IsFailed, IsKeptSince, IsReported, done_of};
-ghost use Rattle.administration.specs.Reading.{IsHeldOf};
-ghost use Rattle.administration.specs.Serving.{HasDone, HasDoneAll, IsServed, IsStopped};
-ghost use Rattle.administration.specs.declared.done.Done.{Done};
+ghost use Rattle.std.specs.Prelude.{◌≡◌, ◌≢◌, ◌≤◌, ◌++◌, ℕ, List, [], length, take, IfOk, IfSome, IsErrOf, MatchOption, MatchResult, OnErr, OnOk, true};
+ghost use Rattle.streams.specs.Sent.{IsSent};
+ghost use Rattle.journal.specs.Texts.{texts_of};
+ghost use Rattle.mapshare.specs.Admin.{Batches, all_of};
+ghost use Rattle.administration.specs.Commands.{Command};
+ghost use Rattle.administration.specs.Keeping.{HasFailed, IsCutShort, IsFailed, IsKeptSince, IsReported, failed_lines, results_of};
+ghost use Rattle.administration.specs.Reading.{IsOther};
+ghost use Rattle.administration.specs.Serving.{ArePublished, AreSubmitted, HasDone, HasDoneAll, IsServed, lines_of};
+ghost use Rattle.administration.specs.declared.group.TheConstants.{GROUP};
 ghost use Rattle.administration.specs.declared.keeping.AdministerFault.TheVariants as fault;
 
 use crate::done::{Done, send_line};
-use crate::reading::{ReadCommand, read_command};
+use crate::group::{Group, Next, Other, read_group};
+use crate::results::{Front, Results, send_results};
+use crate::serving::publish;
 use journalfile::Keeps;
-use mapshare::{Admin, KeepFailed, Retried, Sharing, Submitted};
+use mapshare::{Accepted, Admin, KeepFailed, Retried, Sharing};
 use std::sync::Wait;
-use streams::{Sink, Source, put_all};
+use streams::{BufferedSource, Sink, put_all};
 
 /// Why a client isn't served to its end.
 #[derive(Clone, Copy, Debug, PartialEq, Eq)]
 pub enum AdministerFault {
-    /// The writer failed. The command is done, although its line wasn't written.
+    /// The writer failed. The commands that were read are done, although their lines weren't written, or not all of them.
     PutFailed,
-    /// The keeper of batches failed, and the client was sent `FAILED`. The service has to stop.
+    /// The keeper of batches failed, and the client was sent `FAILED` for each batch that it may not have kept. The service has to stop.
     KeepFailed,
 }
 
-// The result of a batch that was submitted.
-fn done_of<S: Sharing>(submitted: Submitted<S>) -> Done
-    ensures { result ≡ done_of S.opening submitted }
-{
-    match submitted {
-        Submitted::Published(receipt) => Done::Published(receipt.sequence()),
-        Submitted::Held => Done::Held,
-        Submitted::Refused(fault) => Done::Refused(fault),
-        Submitted::NoMemory => Done::NoMemory,
-    }
-}
-
-// Submits a batch and keeps it, where its bytes are held.
-fn submit_kept<S: Sharing, K: Keeps, R: Wait>(
+// Publishes the pending batches, where some were just accepted, and returns the sequence after them. There is none where there was no memory.
+fn publish_accepted<S: Sharing, R: Wait>(
     rt: &R,
     admin: Admin<S>,
-    keeper: &mut K,
-    held: Option<Vec<u8>>,
-) -> (Admin<S>, Result<Done, KeepFailed>)
-    requires ready { (kept : List (List ℕ)) × K.keeps keeper.old kept }
-    ensures done { (batch : List ℕ) → IfSome held (λ bytes. bytes.items ≡ batch) → MatchResult result.1
-        (λ done. HasDone S.opening admin (Submit batch) done result.0) (λ _. HasFailed S.opening admin (Submit batch) result.0) }
-    ensures kept { (kept : List (List ℕ)) → K.keeps keeper.old kept → OnOk result.1 (IsKeptSince K.keeps admin kept result.0 keeper.new) }
+    accepted: usize,
+) -> (Admin<S>, Option<u64>)
+    requires pending { 1 ≤ accepted → admin.pending ≢ [] }
+    ensures published { MatchOption result.1 (result.0 ≡ admin) (λ sequence. ArePublished S.opening (all_of admin) sequence result.0) }
+    ensures some { IfSome result.1 (λ _. 1 ≤ accepted) }
 {
-    let Some(batch) = held else {
-        return (admin, Ok(Done::NoMemory));
-    };
-    let (admin, submitted) = admin.submit_kept(rt, keeper, batch);
-    match submitted {
-        Ok(submitted) => (admin, Ok(done_of(submitted))),
-        Err(failed) => (admin, Err(failed)),
+    if accepted == 0 {
+        return (admin, None);
+    }
+    match admin.retry(rt) {
+        (admin, Retried::Published(receipt)) => (admin, Some(receipt.sequence())),
+        (admin, Retried::Held | Retried::Idle) => (admin, None),
     }
 }
 
-// Publishes the pending batches, which are kept already.
-fn retry_kept<S: Sharing, R: Wait>(rt: &R, admin: Admin<S>) -> (Admin<S>, Done)
-    ensures done { HasDone S.opening admin Publish result.1 result.0 }
+// Keeps the first of some batches, up to the first that isn't accepted, and publishes them, where there are any.
+fn accept<S: Sharing, K: Keeps, R: Wait>(
+    rt: &R,
+    mut admin: Admin<S>,
+    keeper: &mut K,
+    batches: &[Vec<u8>],
+) -> (Admin<S>, Result<Front, KeepFailed>)
+    requires ready { (kept : List (List ℕ)) × K.keeps keeper.old kept }
+    ensures some { IfOk result.1 (λ front. 1 ≤ length batches.now → 1 ≤ length (results_of front)) }
+    ensures few { IfOk result.1 (λ front. length (results_of front) ≤ length batches.now) }
+    ensures done { MatchResult result.1
+        (λ front. AreSubmitted S.opening admin (take (length (results_of front)) (texts_of batches.now)) (results_of front) result.0)
+        (λ _. HasFailed S.opening admin (texts_of batches.now) × (result.0 ≡ admin)) }
+    ensures kept { (kept : List (List ℕ)) → K.keeps keeper.old kept → OnOk result.1 (IsKeptSince K.keeps admin kept result.0 keeper.new) }
+{
+    let Accepted { count, refused } = match admin.accept_kept(keeper, batches) {
+        Ok(accepted) => accepted,
+        Err(failed) => return (admin, Err(failed)),
+    };
+    let (admin, sequence) = publish_accepted(rt, admin, count);
+    let front = Front {
+        accepted: count,
+        sequence,
+        refused,
+    };
+    (admin, Ok(front))
+}
+
+// Does all batches of a group. Where the keeper fails, the results are those of the batches before.
+fn accept_all<S: Sharing, K: Keeps, R: Wait>(
+    rt: &R,
+    mut admin: Admin<S>,
+    keeper: &mut K,
+    batches: &[Vec<u8>],
+) -> (Admin<S>, Results, Result<(), KeepFailed>)
+    requires few { length batches.now ≤ GROUP }
+    requires ready { (kept : List (List ℕ)) × K.keeps keeper.old kept }
+    ensures done { OnOk result.2 (AreSubmitted S.opening admin (texts_of batches.now) result.1 result.0) }
+    ensures failed { OnErr result.2 ((first failed : List (List ℕ)) × (texts_of batches.now ≡ first ++ failed)
+        × AreSubmitted S.opening admin first result.1 result.0 × HasFailed S.opening result.0 failed) }
+    ensures kept { (kept : List (List ℕ)) → K.keeps keeper.old kept → OnOk result.2 (IsKeptSince K.keeps admin kept result.0 keeper.new) }
+{
+    let mut results = Results::new();
+    let mut rest = batches;
+    while !rest.is_empty() {
+        let (after, front) = accept(rt, admin, keeper, rest);
+        admin = after;
+        match front {
+            Ok(front) => results.add(front),
+            Err(failed) => return (admin, results, Err(failed)),
+        }
+        rest = &batches[results.as_slice().len()..];
+    }
+    (admin, results, Ok(()))
+}
+
+// Does a command that keeps no batch.
+fn perform_other<S: Sharing, R: Wait>(rt: &R, admin: Admin<S>, other: Other) -> (Admin<S>, Done)
+    ensures done { (command : Command) → IsOther command other → HasDone S.opening admin command result.1 result.0 }
     ensures same { all_of result.0 ≡ all_of admin }
 {
-    match admin.retry(rt) {
-        (admin, Retried::Published(receipt)) => (admin, Done::Published(receipt.sequence())),
-        (admin, Retried::Held) => (admin, Done::Held),
-        (admin, Retried::Idle) => (admin, Done::Idle),
+    match other {
+        Other::NoMemory => (admin, Done::NoMemory),
+        Other::Retry => publish(rt, admin),
+        Other::Malformed => (admin, Done::Malformed),
     }
 }
 
-// Does a command, and keeps a batch that is accepted.
-pub(crate) fn perform_kept<S: Sharing, K: Keeps, R: Wait>(
-    rt: &R,
-    admin: Admin<S>,
-    keeper: &mut K,
-    asked: ReadCommand,
-) -> (Admin<S>, Result<Done, KeepFailed>)
-    requires ready { (kept : List (List ℕ)) × K.keeps keeper.old kept }
-    ensures done { (command : Command) → IsHeldOf command asked → MatchResult result.1
-        (λ done. HasDone S.opening admin command done result.0) (λ _. HasFailed S.opening admin command result.0) }
-    ensures kept { (kept : List (List ℕ)) → K.keeps keeper.old kept → OnOk result.1 (IsKeptSince K.keeps admin kept result.0 keeper.new) }
+// Writes the lines that report the results, and a line for each batch that the keeper failed to keep, as far as the writer takes them.
+fn send_failures<O: Sink>(writer: &mut O, results: &Results, failed: usize)
+    ensures { IsReported O.held O.taken writer.old (lines_of results.now ++ failed_lines failed) writer.new }
 {
-    match asked {
-        ReadCommand::Batch(held) => submit_kept(rt, admin, keeper, held),
-        ReadCommand::Retry => {
-            let (admin, done) = retry_kept(rt, admin);
-            (admin, Ok(done))
+    if send_results(writer, results).is_err() {
+        return;
+    }
+    for _ in 0..failed {
+        if put_all(writer, b"FAILED\n").is_err() {
+            return;
         }
-        ReadCommand::Malformed => (admin, Ok(Done::Malformed)),
     }
 }
 
-// Writes the line that reports a failure of the keeper, as far as the writer takes it.
-fn send_failure<O: Sink>(writer: &mut O)
-    ensures { IsReported O.held O.taken writer.old writer.new }
-{
-    let _sent = put_all(writer, b"FAILED\n");
-}
-
-/// Serves a client as `administer` does, and keeps each batch before it is published. Where the keeper fails, the client is sent
-/// `FAILED` in place of the batch's result, and is served no more.
-pub fn administer_kept<S: Sharing, K: Keeps, R: AllocGlobal + Wait, I: Source, O: Sink>(
+/// Serves a client as `administer` does, and keeps each batch before it is published. Batches that came together are kept by one sync, and are published
+/// together, before the lines of all are written. Where the keeper fails, the client is sent `FAILED` for each batch that it may not have kept, and is
+/// served no more.
+pub fn administer_kept<S: Sharing, K: Keeps, R: AllocGlobal + Wait, I: BufferedSource, O: Sink>(
     rt: &R,
     admin: Admin<S>,
     keeper: &mut K,
@@ -112,11 +142,13 @@ pub fn administer_kept<S: Sharing, K: Keeps, R: AllocGlobal + Wait, I: Source, O
 ) -> (Admin<S>, Result<(), AdministerFault>)
     requires ready { (kept : List (List ℕ)) × K.keeps keeper.old kept }
     ensures served { OnOk result.1 ((commands : List Command) × (lines rest : List ℕ)
-        × HasDoneAll S.opening (I.left reader.old) (I.left reader.new) commands admin lines rest result.0
+        × HasDoneAll S.opening (I.Source.left reader.old) (I.Source.left reader.new) commands admin lines rest result.0
         × IsSent O.held O.taken writer.old lines writer.new
-        × IsServed commands rest (I.left reader.new) (I.take_failed reader.new)) }
-    ensures stopped { IsErrOf result.1 fault.PutFailed → IsStopped S.opening (I.left reader.old) (I.left reader.new) O.held O.taken admin writer.old result.0 writer.new }
-    ensures failed { IsErrOf result.1 fault.KeepFailed → IsFailed S.opening (I.left reader.old) (I.left reader.new) O.held O.taken admin writer.old result.0 writer.new }
+        × IsServed commands rest (I.Source.left reader.new) (I.Source.take_failed reader.new)) }
+    ensures stopped { IsErrOf result.1 fault.PutFailed
+        → IsCutShort S.opening (I.Source.left reader.old) (I.Source.left reader.new) O.held O.taken admin writer.old result.0 writer.new }
+    ensures failed { IsErrOf result.1 fault.KeepFailed
+        → IsFailed S.opening (I.Source.left reader.old) (I.Source.left reader.new) O.held O.taken admin writer.old result.0 writer.new }
 
     // All accepted batches are kept, unless the keeper failed.
     ensures kept { (kept : List (List ℕ)) → K.keeps keeper.old kept → MatchResult result.1
@@ -127,15 +159,23 @@ pub fn administer_kept<S: Sharing, K: Keeps, R: AllocGlobal + Wait, I: Source, O
 {
     let mut admin = admin;
     for _ in rt.forever() {
-        let Some(asked) = read_command(rt.alloc(), reader) else {
-            return (admin, Ok(()));
-        };
-        let (after, done) = perform_kept(rt, admin, keeper, asked);
+        let Group { batches, next } = read_group(rt.alloc(), reader);
+        let (after, results, kept) = accept_all(rt, admin, keeper, batches.as_slice());
         admin = after;
-        let Ok(done) = done else {
-            send_failure(writer);
+        if kept.is_err() {
+            send_failures(writer, &results, batches.len() - results.as_slice().len());
             return (admin, Err(AdministerFault::KeepFailed));
+        }
+        if send_results(writer, &results).is_err() {
+            return (admin, Err(AdministerFault::PutFailed));
+        }
+        let other = match next {
+            Next::Nothing => continue,
+            Next::End => return (admin, Ok(())),
+            Next::Command(other) => other,
         };
+        let (after, done) = perform_other(rt, admin, other);
+        admin = after;
         if send_line(writer, done).is_err() {
             return (admin, Err(AdministerFault::PutFailed));
         }

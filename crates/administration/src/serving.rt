@@ -1,29 +1,59 @@
 ghost use Rattle.std.specs.Prelude.{◌≡◌, ℕ, List, OnOk, OnErr, MatchResult, true};
 ghost use Rattle.streams.specs.Sent.{IsSent, IsCutSomewhere};
-ghost use Rattle.mapshare.specs.Admin.{Batches};
-ghost use Rattle.administration.specs.Commands.{Command, first_command};
+ghost use Rattle.mapshare.specs.Admin.{Batches, all_of};
+ghost use Rattle.administration.specs.Commands.{Command, Publish, Submit, first_command};
 ghost use Rattle.administration.specs.Reading.{IsHeldOf};
-ghost use Rattle.administration.specs.Serving.{HasDone, HasDoneAll, IsServed, IsStopped};
+ghost use Rattle.administration.specs.Serving.{HasDone, HasDoneAll, IsServed, IsStopped, done_of};
 ghost use Rattle.administration.specs.declared.done.Done.{Done};
 
 use crate::done::{Done, send_line};
-use crate::keeping::perform_kept;
 use crate::reading::{ReadCommand, read_command};
-use journalfile::Nowhere;
-use mapshare::{Admin, KeepFailed, Sharing};
+use mapshare::{Admin, Retried, Sharing, Submitted};
 use std::alloc::Global;
 use std::sync::Wait;
 use streams::{PutFailed, Sink, Source};
 
-// Does a command. No batch is kept, so that no keeper fails.
+// The result of a batch that was submitted.
+fn done_of<S: Sharing>(submitted: Submitted<S>) -> Done
+    ensures { result ≡ done_of S.opening submitted }
+{
+    match submitted {
+        Submitted::Published(receipt) => Done::Published(receipt.sequence()),
+        Submitted::Held => Done::Held,
+        Submitted::Refused(fault) => Done::Refused(fault),
+        Submitted::NoMemory => Done::NoMemory,
+    }
+}
+
+// Publishes the pending batches, if there are any.
+pub(crate) fn publish<S: Sharing, R: Wait>(rt: &R, admin: Admin<S>) -> (Admin<S>, Done)
+    ensures done { HasDone S.opening admin Publish result.1 result.0 }
+    ensures same { all_of result.0 ≡ all_of admin }
+{
+    match admin.retry(rt) {
+        (admin, Retried::Published(receipt)) => (admin, Done::Published(receipt.sequence())),
+        (admin, Retried::Held) => (admin, Done::Held),
+        (admin, Retried::Idle) => (admin, Done::Idle),
+    }
+}
+
+// Submits a batch, which nothing keeps.
+fn submit<S: Sharing, R: Wait>(rt: &R, admin: Admin<S>, batch: Vec<u8>) -> (Admin<S>, Done)
+    ensures { HasDone S.opening admin (Submit batch.items) result.1 result.0 }
+{
+    let (admin, submitted) = admin.submit(rt, batch);
+    (admin, done_of(submitted))
+}
+
+// Does a command. No batch is kept.
 fn perform<S: Sharing, R: Wait>(rt: &R, admin: Admin<S>, asked: ReadCommand) -> (Admin<S>, Done)
     ensures { (command : Command) → IsHeldOf command asked → HasDone S.opening admin command result.1 result.0 }
 {
-    let mut nowhere = Nowhere;
-    let (admin, done) = perform_kept(rt, admin, &mut nowhere, asked);
-    match done {
-        Ok(done) => (admin, done),
-        Err(KeepFailed) => (admin, Done::NoMemory),
+    match asked {
+        ReadCommand::Batch(Some(batch)) => submit(rt, admin, batch),
+        ReadCommand::Batch(None) => (admin, Done::NoMemory),
+        ReadCommand::Retry => publish(rt, admin),
+        ReadCommand::Malformed => (admin, Done::Malformed),
     }
 }
 

@@ -2,7 +2,7 @@
 
 use httpedge::EdgeFault;
 use std::alloc::Global;
-use streams::{Sink, Source};
+use streams::{BufferedSource, Sink};
 
 /// The two sides of a connection.
 #[derive(Drop)]
@@ -23,7 +23,7 @@ pub trait Opens {
     ghost use Rattle.httpedge.specs.declared.edge.EdgeFault.{EdgeFault};
 
     /// Where the bytes of a client come from.
-    type Reader: Source + Drop;
+    type Reader: BufferedSource + Drop;
 
     /// Where the bytes for a client go.
     type Writer: Sink + Drop;

@@ -16,6 +16,11 @@ fn say_busy(mut stream: &TcpStream) {
 }
 
 impl SharedStream {
+    // Tells an administrator that memory for the connection is refused.
+    pub(crate) fn say_busy(&self) {
+        say_busy(&self.stream);
+    }
+
     /// The stream twice. Where memory for that is refused, the administrator gets a line that says so.
     pub(crate) fn pair(alloc: Global, stream: TcpStream) -> Option<(Self, Self)> {
         let stream = match Arc::new(alloc, stream) {

@@ -12,6 +12,7 @@ use eventloop::Wakes;
 use httpedge::EdgeFault;
 use mapdefs::Text;
 use std::alloc::{AllocError, Global};
+use std::io::BufReader;
 use std::net::{SocketAddr, TcpListener, TcpStream};
 use std::sync::Arc;
 use std::sync::atomic::{AtomicBool, Ordering};
@@ -22,7 +23,10 @@ use streams::Flagged;
 // How often a waker tries to open a connection.
 const WAKE_TRIES: u32 = 6_000;
 
-type SocketReader = Flagged<TimedReader<SharedStream, HostRuntime>>;
+// How many bytes of an administrator are read ahead, at most.
+const AHEAD_BYTES: usize = 65_536;
+
+type SocketReader = Flagged<BufReader<TimedReader<SharedStream, HostRuntime>>>;
 
 type SocketWriter = Flagged<TimedWriter<SharedStream, HostRuntime>>;
 
@@ -171,7 +175,7 @@ impl IntoTransport<SocketTransport> for SocketConnection {
 // Ends a connection, with its fault or none. What its client still sends is read for so long.
 fn end(sides: Sides<SocketReader, SocketWriter>, fault: Option<EdgeFault>, whole: Duration) {
     let Sides { reader, writer } = sides;
-    let (mut reader, mut writer) = (reader.into_inner(), writer.into_inner());
+    let (mut reader, mut writer) = (reader.into_inner().into_inner(), writer.into_inner());
     reader.limit(whole);
     hang_up(&mut Flagged::new(reader), &mut writer, fault);
 }
@@ -200,8 +204,13 @@ impl Opens for SocketConnection {
         let theirs = Arc::try_clone(&is_ending).ok()?;
         let (stream, other) = SharedStream::pair(alloc, stream)?;
         let reader = TimedReader::start(other, rt, waits, read).ok()?;
+        let Ok(reader) = BufReader::with_capacity(alloc, AHEAD_BYTES, reader.until(is_ending))
+        else {
+            stream.say_busy();
+            return None;
+        };
         Some(Sides {
-            reader: Flagged::new(reader.until(is_ending)),
+            reader: Flagged::new(reader),
             writer: Flagged::new(TimedWriter::new(stream, rt, waits, written).until(theirs)),
         })
     }

@@ -2,8 +2,8 @@
 use Rattle.std.proofs.Common.{◌≡◌, ◌⊎◌, inl, inr, ℕ, ◌+◌, ◌-◌, Bool, List, ◌++◌, Option, None, Some, Result, Ok, Err, refl}
 use Rattle.std.specs.Prelude.{OnOk, IsErr, IsErrOf, MatchResult, true}
 use Rattle.administration.specs.Commands.{Command}
-use Rattle.administration.specs.Keeping.{IsFailed, IsReported}
-use Rattle.administration.specs.Serving.{HasDoneAll, IsServed, IsStopped}
+use Rattle.administration.specs.Keeping.{HasSent, IsCutShort, IsFailed, IsReported}
+use Rattle.administration.specs.Serving.{HasDoneAll, IsServed}
 use Rattle.administration.specs.declared.keeping.AdministerFault.{AdministerFault}
 use Rattle.administration.specs.declared.keeping.AdministerFault.TheVariants.{PutFailed, KeepFailed}
 use Rattle.batches.specs.Batch.{State}
@@ -23,50 +23,59 @@ module _ {A B : Type 0} (within : A → B) (held : B → Option (List ℕ)) (tak
   cut-within : (old : A) (text : List ℕ) (new : A) → IsCutSomewhere (λ s. held (within s)) (λ s. taken (within s)) old text new → IsCutSomewhere held taken (within old) text (within new)
   cut-within old text new (written, cut) = (written, record { short = cut.short; bytes = cut.bytes; count = cut.count })
 
-  reported-within : (old new : A) → IsReported (λ s. held (within s)) (λ s. taken (within s)) old new → IsReported held taken (within old) (within new)
-  reported-within old new (inl sent) = inl (sent-within old _ new sent)
-  reported-within old new (inr cut) = inr (cut-within old _ new cut)
+  reported-within : (old : A) (text : List ℕ) (new : A) → IsReported (λ s. held (within s)) (λ s. taken (within s)) old text new → IsReported held taken (within old) text (within new)
+  reported-within old text new (inl sent) = inl (sent-within old text new sent)
+  reported-within old text new (inr cut) = inr (cut-within old text new cut)
 
-  stopped-within : (opening : State) (before after : Option (List ℕ)) (old : Batches) (first : A) (new : Batches) (last : A)
-      → IsStopped opening before after (λ s. held (within s)) (λ s. taken (within s)) old first new last → IsStopped opening before after held taken old (within first) new (within last)
-  stopped-within opening before after old first new last stopped = record {
-    commands = stopped.commands;
-    lines = stopped.lines;
-    bytes = stopped.bytes;
-    between = stopped.between;
-    done = stopped.done;
-    well_formed = stopped.well_formed;
-    command = stopped.command;
-    what = stopped.what;
-    front = stopped.front;
-    then = stopped.then;
-    middle = within stopped.middle;
-    sent = sent-within first _ stopped.middle stopped.sent;
-    cut = cut-within stopped.middle _ last stopped.cut;
-  }
+  module _ (opening : State) (before after : Option (List ℕ)) (old : Batches) (first : A) where
+    earlier-within : (bytes : List ℕ) (new : Batches) (last : A) → HasSent opening before after (λ s. held (within s)) (λ s. taken (within s)) old first bytes new last
+        → HasSent opening before after held taken old (within first) bytes new (within last)
+    earlier-within bytes new last sent = record {
+      commands = sent.commands;
+      lines = sent.lines;
+      done = sent.done;
+      well_formed = sent.well_formed;
+      sent = sent-within first sent.lines last sent.sent;
+    }
 
-  failed-within : (opening : State) (before after : Option (List ℕ)) (old : Batches) (first : A) (new : Batches) (last : A)
-      → IsFailed opening before after (λ s. held (within s)) (λ s. taken (within s)) old first new last → IsFailed opening before after held taken old (within first) new (within last)
-  failed-within opening before after old first new last failed = record {
-    commands = failed.commands;
-    lines = failed.lines;
-    bytes = failed.bytes;
-    between = failed.between;
-    done = failed.done;
-    well_formed = failed.well_formed;
-    command = failed.command;
-    front = failed.front;
-    then = failed.then;
-    middle = within failed.middle;
-    sent = sent-within first _ failed.middle failed.sent;
-    reported = reported-within failed.middle last failed.reported;
-  }
+    stopped-within : (new : Batches) (last : A) → IsCutShort opening before after (λ s. held (within s)) (λ s. taken (within s)) old first new last
+        → IsCutShort opening before after held taken old (within first) new (within last)
+    stopped-within new last short = record {
+      bytes = short.bytes;
+      between = short.between;
+      middle = within short.middle;
+      earlier = earlier-within short.bytes short.between short.middle short.earlier;
+      commands = short.commands;
+      lines = short.lines;
+      rest = short.rest;
+      done = short.done;
+      few = short.few;
+      cut = cut-within short.middle short.lines last short.cut;
+    }
+
+    failed-within : (new : Batches) (last : A) → IsFailed opening before after (λ s. held (within s)) (λ s. taken (within s)) old first new last
+        → IsFailed opening before after held taken old (within first) new (within last)
+    failed-within new last is = record {
+      bytes = is.bytes;
+      between = is.between;
+      middle = within is.middle;
+      earlier = earlier-within is.bytes is.between is.middle is.earlier;
+      batches = is.batches;
+      failed = is.failed;
+      results = is.results;
+      rest = is.rest;
+      begins = is.begins;
+      few = is.few;
+      done = is.done;
+      fails = is.fails;
+      reported = reported-within is.middle _ last is.reported;
+    }
 
   -- so an administrator was served, whatever the outcome
   pub administered : {R : Type 0} (opening : State) (left : R → Option (List ℕ)) (failed : R → Bool) (served : Result (Unit {0}) AdministerFault) (reader rest : R) (old new : Batches) (first last : A) (written : ℕ)
       → OnOk served ((commands : List Command) × (lines bytes : List ℕ) × HasDoneAll opening (left reader) (left rest) commands old lines bytes new
       × IsSent (λ s. held (within s)) (λ s. taken (within s)) first lines last × IsServed commands bytes (left rest) (failed rest))
-      → (IsErrOf served PutFailed → IsStopped opening (left reader) (left rest) (λ s. held (within s)) (λ s. taken (within s)) old first new last)
+      → (IsErrOf served PutFailed → IsCutShort opening (left reader) (left rest) (λ s. held (within s)) (λ s. taken (within s)) old first new last)
       → (IsErrOf served KeepFailed → IsFailed opening (left reader) (left rest) (λ s. held (within s)) (λ s. taken (within s)) old first new last)
       → written ≡ taken (within last) - taken (within first)
       → Administers opening left failed held taken (has_kept served) (fault_of served written)

@@ -1,8 +1,8 @@
 -- One connection of an administrator (docs/SERVICE.md, "Administration").
 use Rattle.std.specs.Prelude.{◌≡◌, ℕ, ◌-◌, Bool, true, false, List, Option, None, Some, Result, Ok, Err}
 use Rattle.administration.specs.Commands.{Command}
-use Rattle.administration.specs.Keeping.{IsFailed}
-use Rattle.administration.specs.Serving.{HasDoneAll, IsServed, IsStopped}
+use Rattle.administration.specs.Keeping.{IsCutShort, IsFailed}
+use Rattle.administration.specs.Serving.{HasDoneAll, IsServed}
 use Rattle.administration.specs.declared.keeping.AdministerFault.{AdministerFault}
 use Rattle.administration.specs.declared.keeping.AdministerFault.TheVariants.{PutFailed, KeepFailed}
 use Rattle.batches.specs.Batch.{State}
@@ -24,9 +24,8 @@ has_kept (Ok done) = true
 has_kept (Err PutFailed) = true
 has_kept (Err KeepFailed) = false
 
--- an administrator's commands were done and answered: all up to their end, to a line that wasn't written, or to a batch that the keeper failed to
--- keep. Of a line that wasn't written so many bytes were sent, with those of the lines before. `left` and `failed` are of a reader, `held` and
--- `taken` of a writer
+-- an administrator's commands were done and answered: all up to their end, to lines that weren't written, or to batches that the keeper failed to
+-- keep. Of all lines so many bytes were sent. `left` and `failed` are of a reader, `held` and `taken` of a writer
 abbrev pub Administers : {R W : Type 0} → State → (R → Option (List ℕ)) → (R → Bool) → (W → Option (List ℕ)) → (W → ℕ) → Bool → Option EdgeFault → Attended R W Batches → Attended R W Batches → Type 0
 Administers opening left failed held taken true None old new =
     (commands : List Command) × (lines rest : List ℕ)
@@ -36,6 +35,6 @@ Administers opening left failed held taken true None old new =
 Administers opening left failed held taken false None old new =
     IsFailed opening (left old.reader) (left new.reader) held taken old.asked old.writer new.asked new.writer
 Administers opening left failed held taken true (Some (Write written)) old new =
-    IsStopped opening (left old.reader) (left new.reader) held taken old.asked old.writer new.asked new.writer
+    IsCutShort opening (left old.reader) (left new.reader) held taken old.asked old.writer new.asked new.writer
     × (written ≡ taken new.writer - taken old.writer)
 Administers opening left failed held taken kept fault old new = ⊥

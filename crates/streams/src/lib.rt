@@ -8,12 +8,14 @@
 //! *cut* where only its first bytes did.
 #![tactic(auto)]
 
+mod buffered;
 mod flagged;
 mod gathered;
 mod putting;
 mod sink;
 mod source;
 
+pub use buffered::BufferedSource;
 pub use flagged::Flagged;
 pub use putting::{put_all, put_pieces};
 pub use sink::{PutFailed, Sink, WriteFault};
