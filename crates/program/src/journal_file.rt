@@ -3,8 +3,7 @@
 ghost use Rattle.std.specs.Prelude.{[]};
 
 use crate::host::OpenFault;
-use journalfile::{Log, ReadError};
-use std::alloc::Global;
+use journalfile::Log;
 use std::fs::{self, File, OpenOptions, TryLockError};
 use std::io::{self, ErrorKind, Read, Seek, SeekFrom, Write};
 use subcommands::parent_of;
@@ -137,7 +136,7 @@ fn open_or_make(rt: &HostRuntime, path: &str, bytes: &[u8]) -> Result<File, Open
     }
 }
 
-/// The log of a journal on a file of the machine: it is read from its start and written at its end. No clause states what a file does, so
+/// The log of a journal on a file of the machine: it is read at any offset and written at its end. No clause states what a file does, so
 /// the log isn't called reliable.
 #[derive(Drop)]
 pub struct JournalFile {
@@ -195,16 +194,9 @@ impl Log for JournalFile {
 
     ghost only_now = { λ reliable. absurd reliable };
 
-    fn read(&mut self, alloc: Global) -> Result<Vec<u8>, ReadError<io::Error>> {
-        if let Err(failure) = self.file.seek(SeekFrom::Start(0)) {
-            return Err(ReadError::Failed(failure));
-        }
-        let mut bytes = Vec::new(alloc);
-        match self.file.read_to_end(&mut bytes) {
-            Ok(_) => Ok(bytes),
-            Err(failure) if failure.kind() == ErrorKind::OutOfMemory => Err(ReadError::NoMemory),
-            Err(failure) => Err(ReadError::Failed(failure)),
-        }
+    fn read_at(&mut self, offset: usize, room: &mut [u8]) -> Result<usize, io::Error> {
+        self.file.seek(SeekFrom::Start(offset as u64))?;
+        self.file.read(room)
     }
 
     // What is appended to a file that was removed or replaced would be lost with the program.
