@@ -1,10 +1,12 @@
 // A service over a tape that stops at each byte, and the bytes that a crash leaves of it.
 
 use crate::maps::machine;
+use crate::records::recorded_batches;
 use crate::tape::Tape;
-use journal::{encode, push_header};
+use journal::{push_header, push_record};
 use journalfile::{Journal, Recovered, recover};
 use std::alloc::{AllocError, Global};
+use std::slice::from_ref;
 use std::test::Fail;
 
 const FINGERPRINT: [u8; 32] = [7; 32];
@@ -19,8 +21,7 @@ fn journal_of(alloc: Global, count: usize) -> Result<Vec<u8>, AllocError> {
     let mut bytes = Vec::new(alloc);
     push_header(&mut bytes, &FINGERPRINT)?;
     for at in 0..count.min(BATCHES.len()) {
-        let record = encode(alloc, &FINGERPRINT, at as u64 + 1, BATCHES[at])?;
-        bytes.extend_from_slice(record.as_slice())?;
+        push_record(&mut bytes, &FINGERPRINT, at as u64 + 1, BATCHES[at])?;
     }
     Ok(bytes)
 }
@@ -35,14 +36,26 @@ fn found(alloc: Global, bytes: &[u8]) -> Result<u64, AllocError> {
     }
 }
 
-// Starts on a tape, and keeps a batch. Returns whether that was done.
-fn keep(alloc: Global, tape: Tape, batch: &[u8]) -> Result<(Tape, bool), AllocError> {
+// Whether these bytes are a journal of the first of the batches, so many of them.
+fn are_first(alloc: Global, bytes: &[u8], count: u64) -> bool {
+    let Ok(found) = recorded_batches(alloc, &FINGERPRINT, bytes) else {
+        return false;
+    };
+    let are_equal = found
+        .iter()
+        .zip(BATCHES)
+        .all(|(batch, expected)| batch.as_slice() == expected);
+    are_equal && found.len() as u64 == count
+}
+
+// Starts on a tape, and keeps batches. Returns whether that was done.
+fn keep(alloc: Global, tape: Tape, batches: &[Vec<u8>]) -> Result<(Tape, bool), AllocError> {
     let mut tape = tape;
     let mut machine = machine(alloc, NAME)?;
     let Ok(Recovered { count, .. }) = recover(alloc, &FINGERPRINT, &mut tape, &mut machine) else {
         return Ok((tape, false));
     };
-    if count > 9 {
+    if count > 9 || batches.len() > 9 {
         return Ok((tape, false));
     }
     let mut journal = Journal {
@@ -51,7 +64,7 @@ fn keep(alloc: Global, tape: Tape, batch: &[u8]) -> Result<(Tape, bool), AllocEr
         fingerprint: FINGERPRINT,
         count,
     };
-    let is_kept = journal.put(batch).is_ok();
+    let is_kept = journal.put(batches).is_ok();
     Ok((journal.log, is_kept))
 }
 
@@ -60,7 +73,8 @@ fn run(alloc: Global, room: usize) -> Result<(Tape, u64), AllocError> {
     let mut tape = Tape::new(alloc, journal_of(alloc, 0)?, room);
     let mut kept = 0;
     for batch in BATCHES {
-        let (after, is_kept) = keep(alloc, tape, batch)?;
+        let batch = Vec::from_slice(alloc, batch)?;
+        let (after, is_kept) = keep(alloc, tape, from_ref(&batch))?;
         tape = after;
         if !is_kept || kept >= 9 {
             break;
@@ -90,6 +104,47 @@ fn what_was_kept_is_found_wherever_it_stops(rt: HostRuntime) -> Result<(), Fail>
             "room {room}: {count} of {kept}"
         );
     }
+    Ok(())
+}
+
+// All batches.
+fn all_batches(alloc: Global) -> Result<Vec<Vec<u8>>, AllocError> {
+    let mut batches = Vec::new(alloc);
+    for batch in BATCHES {
+        batches.push(Vec::from_slice(alloc, batch)?)?;
+    }
+    Ok(batches)
+}
+
+// Whether a start finds the first batches in the bytes that a crash leaves of a tape on which all were put at once, and all of
+// them where this was done. The tape stops after so many bytes.
+fn are_first_found(alloc: Global, batches: &[Vec<u8>], room: usize) -> Result<bool, AllocError> {
+    let tape = Tape::new(alloc, journal_of(alloc, 0)?, room);
+    let (tape, is_kept) = keep(alloc, tape, batches)?;
+    let bytes = tape.bytes();
+    for left in tape.synced()..=bytes.len() {
+        let left = bytes.get(..left).unwrap_or(bytes);
+        let count = found(alloc, left)?;
+        if !are_first(alloc, left, count) || (is_kept && count != 3) {
+            return Ok(false);
+        }
+    }
+    Ok(true)
+}
+
+#[test]
+fn the_first_of_three_are_found_wherever_it_stops(rt: HostRuntime) -> Result<(), Fail> {
+    let alloc = rt.alloc();
+    let batches = all_batches(alloc)?;
+    let header = journal_of(alloc, 0)?;
+    let whole = journal_of(alloc, 3)?;
+    let size = whole.len().saturating_sub(header.len());
+    for room in 0..=size {
+        let right = are_first_found(alloc, &batches, room)?;
+        assert!(rt; right, "room {room}");
+    }
+    let (tape, is_kept) = keep(alloc, Tape::new(alloc, header, size), &batches)?;
+    assert!(rt; is_kept && tape.bytes() == whole.as_slice());
     Ok(())
 }
 

@@ -8,8 +8,16 @@ mod tape;
 pub use tape::{Tape, TapeFailed};
 
 #[cfg(test)]
+mod accepting;
+#[cfg(test)]
 mod crashes;
 #[cfg(test)]
 mod digests;
 #[cfg(test)]
 mod maps;
+#[cfg(test)]
+mod pieces;
+#[cfg(test)]
+mod records;
+#[cfg(test)]
+mod short_reads;

@@ -1,10 +1,10 @@
 //! A log in memory that stops at any byte, as by a crash.
 
-ghost use Rattle.std.specs.Prelude.{◌≡◌, ◌⊎◌, ◌≤◌, [], ◌∷◌, ◌++◌, length, take, drop, IfOk, OnOk, OnErr};
+ghost use Rattle.std.specs.Prelude.{◌≡◌, ◌⊎◌, ◌≤◌, [], ◌∷◌, ◌++◌, length, min, take, drop, IfOk, OnOk, OnErr};
 ghost use Rattle.std.proofs.Common.{inl};
 ghost use Rattle.journal_tests.specs.Tape.{IsLeft, WasOnce, only_here};
 
-use journalfile::{Log, ReadError};
+use journalfile::Log;
 use std::alloc::{AllocError, Global};
 
 /// The tape has stopped.
@@ -28,6 +28,7 @@ pub struct Tape {
     // How many bytes are still taken. The call that has no room for all of its bytes takes the first of them, and no later call works.
     room: usize,
     has_stopped: bool,
+    syncs: usize,
 }
 
 impl Tape {
@@ -40,6 +41,7 @@ impl Tape {
             past: Vec::new(alloc),
             room,
             has_stopped: false,
+            syncs: 0,
         }
     }
 
@@ -51,6 +53,11 @@ impl Tape {
     /// How many bytes each crash leaves.
     pub fn synced(&self) -> usize {
         self.synced
+    }
+
+    /// How many syncs it has done.
+    pub fn syncs(&self) -> usize {
+        self.syncs
     }
 }
 
@@ -86,6 +93,18 @@ fn longer(alloc: Global, bytes: &Vec<u8>, more: &[u8]) -> Result<Vec<u8>, AllocE
     Ok(longer)
 }
 
+// Copies the bytes from an offset on into a room, as many as it has room for, and returns how many.
+fn copy_from(bytes: &[u8], offset: usize, room: &mut [u8]) -> usize
+    ensures count { result ≡ min (length room.old) (length (drop offset bytes.now)) }
+    ensures length { length room.new ≡ length room.old }
+    ensures copied { take result room.new ≡ take result (drop offset bytes.now) }
+{
+    let left = &bytes[offset.min(bytes.len())..];
+    let count = room.len().min(left.len());
+    room[..count].copy_from_slice(&left[..count]);
+    count
+}
+
 impl Log for Tape {
     type Failure = TapeFailed;
 
@@ -105,14 +124,11 @@ impl Log for Tape {
 
     ghost only_now = { λ reliable m c left. only_here m.past.items m.bytes.items m.synced c left };
 
-    fn read(&mut self, alloc: Global) -> Result<Vec<u8>, ReadError<TapeFailed>> {
+    fn read_at(&mut self, offset: usize, room: &mut [u8]) -> Result<usize, TapeFailed> {
         if self.has_stopped {
-            return Err(ReadError::Failed(TapeFailed));
+            return Err(TapeFailed);
         }
-        match self.bytes.to_vec(alloc) {
-            Ok(bytes) => Ok(bytes),
-            Err(_) => Err(ReadError::NoMemory),
-        }
+        Ok(copy_from(&self.bytes, offset, room))
     }
 
     fn append(&mut self, bytes: &[u8]) -> Result<(), TapeFailed> {
@@ -147,6 +163,7 @@ impl Log for Tape {
         }
         note(self.alloc, &self.bytes, self.synced, &mut self.past)?;
         self.synced = self.bytes.len();
+        self.syncs = self.syncs.wrapping_add(1);
         Ok(())
     }
 }

@@ -1,9 +1,9 @@
 use crate::marks::{Call, begin, end, play_on};
 use crate::reading::plain_machine;
-use journal::{encode, push_header};
-use journalfile::{Journal, Log, PutFault, ReadError, RecoverFault, Recovered, recover};
+use journal::{push_header, push_record};
+use journalfile::{Journal, Log, PutFault, RecoverFault, Recovered, recover};
 use std::alloc::{AllocError, Global};
-use std::io;
+use std::io::{self, Read};
 
 const FINGERPRINT: [u8; 32] = [7; 32];
 
@@ -40,11 +40,9 @@ impl Log for Room {
 
     ghost only_now = { λ reliable. absurd reliable };
 
-    fn read(&mut self, alloc: Global) -> Result<Vec<u8>, ReadError<Full>> {
-        match self.bytes.to_vec(alloc) {
-            Ok(bytes) => Ok(bytes),
-            Err(_) => Err(ReadError::NoMemory),
-        }
+    fn read_at(&mut self, offset: usize, room: &mut [u8]) -> Result<usize, Full> {
+        let mut left = self.bytes.get(offset..).unwrap_or(&[]);
+        left.read(room).map_err(|_| Full)
     }
 
     fn append(&mut self, bytes: &[u8]) -> Result<(), Full> {
@@ -66,8 +64,7 @@ fn journal_bytes(alloc: Global, count: u64) -> Result<Vec<u8>, AllocError> {
     let mut bytes = Vec::with_capacity(alloc, 4_096)?;
     push_header(&mut bytes, &FINGERPRINT)?;
     for number in 0..count {
-        let record = encode(alloc, &FINGERPRINT, number.saturating_add(1), BATCH)?;
-        bytes.extend_from_slice(record.as_slice())?;
+        push_record(&mut bytes, &FINGERPRINT, number.saturating_add(1), BATCH)?;
     }
     bytes.push(192)?;
     Ok(bytes)
@@ -95,6 +92,7 @@ pub fn recover_row(rt: &HostRuntime) -> io::Result<Option<String>> {
 #[derive(Drop)]
 struct Putting {
     journal: Journal<Room>,
+    batches: Vec<Vec<u8>>,
 }
 
 impl Call for Putting {
@@ -104,11 +102,11 @@ impl Call for Putting {
     }
 
     fn call(&mut self, rt: &HostRuntime) -> io::Result<Option<String>> {
-        if self.journal.count > 9 {
+        if self.journal.count > 9 || self.batches.len() > 9 {
             return Ok(None);
         }
         begin(rt)?;
-        let answer = self.journal.put(BATCH);
+        let answer = self.journal.put(self.batches.as_slice());
         end(rt)?;
         match answer {
             Ok(()) => Ok(Some(String::from_str(rt.alloc(), "kept")?)),
@@ -118,7 +116,7 @@ impl Call for Putting {
     }
 }
 
-/// Adds a batch to a journal.
+/// Adds two batches to a journal.
 pub fn put_row(rt: &HostRuntime) -> io::Result<()> {
     let alloc = rt.alloc();
     let log = Room {
@@ -130,5 +128,9 @@ pub fn put_row(rt: &HostRuntime) -> io::Result<()> {
         fingerprint: FINGERPRINT,
         count: 0,
     };
-    play_on(rt, &mut Putting { journal })
+    let mut batches = Vec::new(alloc);
+    for batch in [BATCH, b"".as_slice()] {
+        batches.push(Vec::from_slice(alloc, batch)?)?;
+    }
+    play_on(rt, &mut Putting { journal, batches })
 }

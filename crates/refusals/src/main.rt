@@ -19,7 +19,7 @@ use crate::reading::{
     document_row, expression_row, font_row, head_row, open_row, parse_row, pixmap_row, query_row,
     reply_row, table_row,
 };
-use crate::sharing_rows::{enter_row, share_row, submit_row};
+use crate::sharing_rows::{accept_row, enter_row, share_row, submit_row};
 use std::io;
 use std::sync::Wait;
 
@@ -67,6 +67,7 @@ fn play<R: Wait>(waits: &R, rt: &HostRuntime, name: &str) -> io::Result<()> {
         "put" => put_row(rt),
         "share" => share_row(waits, rt),
         "submit" => submit_row(waits, rt),
+        "accept" => accept_row(waits, rt),
         "enter" => enter_row(waits, rt),
         reading => {
             if !print_answer(rt, answer(rt, reading)?)? {

@@ -3,8 +3,9 @@ ghost use Rattle.std.specs.Prelude.{◌≡◌};
 use crate::marks::{begin, end};
 use crate::reading::plain_machine;
 use history::Blank;
+use journalfile::Nowhere;
 use mapmachine::Machine;
-use mapshare::{Admin, Reader, Retried, Sharing, Submitted, open};
+use mapshare::{Admin, KeepFailed, Reader, Retried, Sharing, Submitted, open};
 use std::alloc::{AllocError, Global};
 use std::io;
 use std::marker::Brand;
@@ -114,6 +115,54 @@ pub fn submit_row<R: Wait>(rt: &R, system: &HostRuntime) -> io::Result<()> {
         Vec::from_slice(alloc, BATCH)?,
     ];
     let shared = submit_shared::<Brand, R>(rt, system, Blank::new(), &machine, batches);
+    println!(system; "shared {shared}")
+}
+
+// Accepts batches, prints how many it accepted, and returns that.
+fn accept<S: Sharing>(system: &HostRuntime, admin: &mut Admin<S>, batches: &[Vec<u8>]) -> usize {
+    let mut nowhere = Nowhere;
+    let _begun = begin(system);
+    let accepted = admin.accept_kept(&mut nowhere, batches);
+    let _ended = end(system);
+    let count = match accepted {
+        Ok(accepted) => accepted.count,
+        Err(KeepFailed) => 0,
+    };
+    let _printed = println!(system; "{count} accepted");
+    count
+}
+
+// Shares a machine, accepts batches, once more those that weren't, and publishes them. It returns whether the machine was shared.
+fn accept_shared<S: Sharing, R: Wait>(
+    rt: &R,
+    system: &HostRuntime,
+    blank: Blank,
+    machine: &Machine,
+    batches: &[Vec<u8>],
+) -> bool
+    requires history { blank.seen.book ≡ S.book }
+    requires opening { machine.now ≡ S.opening }
+{
+    let Ok((mut admin, mut readers)) = open::<S, R>(rt, system.alloc(), blank, machine, 2) else {
+        return false;
+    };
+    let count = accept(system, &mut admin, batches);
+    accept(system, &mut admin, batches.get(count..).unwrap_or(&[]));
+    let (admin, became) = retry(rt, system, admin);
+    print_result(system, became, &mut readers);
+    admin.close(rt);
+    true
+}
+
+/// Has a shared map accept two batches.
+pub fn accept_row<R: Wait>(rt: &R, system: &HostRuntime) -> io::Result<()> {
+    let alloc = system.alloc();
+    let machine = plain_machine(alloc)?;
+    let mut batches = Vec::new(alloc);
+    for batch in [BATCH, b"".as_slice()] {
+        batches.push(Vec::from_slice(alloc, batch)?)?;
+    }
+    let shared = accept_shared::<Brand, R>(rt, system, Blank::new(), &machine, &batches);
     println!(system; "shared {shared}")
 }
 

@@ -1,6 +1,7 @@
 //! A host in memory: its files, and ports with letters for their events.
 
 ghost use Rattle.std.specs.Prelude.{◌≡◌, IfSome, None};
+ghost use Rattle.std.specs.Io.Buffered.{reader_inner};
 
 use crate::memory::{Memory, stream_of};
 use crate::ports::{LAST, RESPONSE};
@@ -14,7 +15,7 @@ use network::{
 };
 use program::{Files, Host, ListenFailed, OpenFault};
 use std::alloc::{AllocError, Global};
-use std::io::{self, Read, Write};
+use std::io::{self, BufReader, Read, Write};
 use std::sync::Arc;
 use std::sync::atomic::{AtomicU64, Ordering};
 use std::thread;
@@ -98,28 +99,32 @@ pub struct Call {
 }
 
 impl Opens for Call {
-    type Reader = Flagged<Memory<'static>>;
+    type Reader = Flagged<BufReader<Memory<'static>>>;
 
     type Writer = Flagged<Counted>;
 
     type Closed = NothingLeft;
 
     // The text that is sent is what its reader has.
-    ghost opens = { λ call sides. IfSome sides (λ both. both.0.inner.left.now ≡ call.sent.now) };
+    ghost opens = { λ call sides. IfSome sides (λ both. (reader_inner both.0.inner).left.now ≡ call.sent.now) };
 
     ghost closes = { λ _ _ _ _. Unit {0} };
 
-    fn open(self, alloc: Global) -> Option<Sides<Flagged<Memory<'static>>, Flagged<Counted>>> {
+    fn open(
+        self,
+        alloc: Global,
+    ) -> Option<Sides<Flagged<BufReader<Memory<'static>>>, Flagged<Counted>>> {
         let Call { sent, counts, .. } = self;
         let memory = stream_of(alloc, "", 7, None).into_inner();
+        let reader = BufReader::new(alloc, stream_of(alloc, sent, 7, None).into_inner()).ok()?;
         Some(Sides {
-            reader: stream_of(alloc, sent, 7, None),
+            reader: Flagged::new(reader),
             writer: Flagged::new(Counted { memory, counts }),
         })
     }
 
     fn close(
-        sides: Sides<Flagged<Memory<'static>>, Flagged<Counted>>,
+        sides: Sides<Flagged<BufReader<Memory<'static>>>, Flagged<Counted>>,
         fault: Option<EdgeFault>,
     ) -> NothingLeft
         ensures { Unit {0} }

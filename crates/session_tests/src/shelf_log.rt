@@ -3,9 +3,10 @@
 ghost use Rattle.std.specs.Prelude.{[]};
 
 use crate::shelf::Counts;
-use journalfile::{Log, ReadError};
+use journalfile::Log;
 use program::OpenFault;
 use std::alloc::Global;
+use std::io::Read;
 use std::sync::Arc;
 use std::sync::atomic::Ordering;
 
@@ -40,11 +41,9 @@ impl Log for ShelfLog {
 
     ghost only_now = { λ reliable. absurd reliable };
 
-    fn read(&mut self, alloc: Global) -> Result<Vec<u8>, ReadError<LogFailed>> {
-        match Vec::from_slice(alloc, &self.held) {
-            Ok(bytes) => Ok(bytes),
-            Err(_) => Err(ReadError::NoMemory),
-        }
+    fn read_at(&mut self, offset: usize, room: &mut [u8]) -> Result<usize, LogFailed> {
+        let mut left = self.held.get(offset..).unwrap_or(&[]);
+        left.read(room).map_err(|_| LogFailed)
     }
 
     // The appended bytes are counted.

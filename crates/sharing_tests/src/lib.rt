@@ -12,6 +12,8 @@ mod counts;
 #[cfg(test)]
 mod crowds;
 #[cfg(test)]
+mod kept_commands;
+#[cfg(test)]
 mod maps;
 #[cfg(test)]
 mod meeting;
