@@ -3,7 +3,7 @@
 
 Usage: crashes.py PROGRAM [KILLS [CHANGES [SEED]]]
 
-Two clients submit batches by lot, and the server is killed at random moments, KILLS times, 1,000 where it isn't given.
+Two clients submit batches by lot, up to four together, and the server is killed at random moments, KILLS times, 1,000 where it isn't given.
 After half of the kills the bytes that no call has synced are lost, or others stand in their place, as after a loss of
 power. Then each call that the server makes on the journal is, in turn, not made or made by half, with the death of the
 server behind it, or fails; while the journal is made, while batches come, and while one with a torn end is opened. A
@@ -198,17 +198,31 @@ class Life:
         self.watch.cancel()
         return self.process.returncode, errors
 
-    def submit(self, batch):
-        """The line that answers a batch, or as much of it as came."""
+    def submit(self, *batches):
+        """The lines that answer batches which are sent together, as much of them as came, and nothing for those that got none."""
         got = b""
         try:
             with socket.create_connection(("127.0.0.1", self.ports[1]), LONGEST) as stream:
-                stream.sendall(b"BATCH %d\n%s" % (len(batch.data), batch.data))
-                while not got.endswith(b"\n") and (piece := stream.recv(100)):
+                stream.sendall(b"".join(b"BATCH %d\n%s" % (len(batch.data), batch.data) for batch in batches))
+                while got.count(b"\n") < len(batches) and (piece := stream.recv(1_000)):
                     got += piece
         except OSError:
             pass
-        return got
+        lines = got.splitlines(keepends=True)
+        return lines + [b""] * (len(batches) - len(lines))
+
+
+def take(batches, lines, published):
+    """Notes the batches whose lines report them as published, by sequence: the others, but for those that are refused."""
+    left = []
+    for batch, line in zip(batches, lines):
+        if line.startswith(b"PUBLISHED ") and line.endswith(b"\n"):
+            published[int(line.split()[1])] = batch
+        elif not (batch.refusal and line == batch.refusal + b"\n"):
+            if line not in (b"", b"FAILED\n") and not b"PUBLISHED".startswith(line.split(b" ")[0]) and not (batch.refusal or b"").startswith(line):
+                raise Wrong(f"a batch is answered with {line!r}")
+            left.append(batch)
+    return left
 
 
 class Bench:
@@ -247,19 +261,13 @@ class Bench:
         return batch_by_lot(self.chance, str(self.number))
 
     def client(self, life, end, published, open_batches, lock):
-        """Submits batches until the server is gone."""
+        """Submits batches, up to four together, until the server is gone."""
         while not end.is_set():
             with lock:
-                batch = self.batch()
-            line = life.submit(batch)
-            if line.startswith(b"PUBLISHED ") and line.endswith(b"\n"):
-                published[int(line.split()[1])] = batch
-            elif batch.refusal and line == batch.refusal + b"\n":
-                continue
-            else:
-                if line not in (b"", b"FAILED\n") and not b"PUBLISHED".startswith(line.split(b" ")[0]) and not (batch.refusal or b"").startswith(line):
-                    raise Wrong(f"a batch is answered with {line!r}")
-                open_batches.append(batch)
+                batches = [self.batch() for _ in range(self.chance.choice((1, 1, 2, 4)))]
+            left = take(batches, life.submit(*batches), published)
+            if left:
+                open_batches.extend(left)
                 return
 
     def lead(self, life, seconds):
@@ -377,15 +385,13 @@ def tried_at(bench, at, how, is_torn, found):
 
 
 def few(bench, life):
-    """Five batches, one after the other, up to the first that isn't answered."""
+    """Two batches, one after the other, and then three together, up to the first that isn't answered."""
     published = {}
-    for _ in range(5):
-        batch = bench.batch()
-        line = life.submit(batch)
-        if line.startswith(b"PUBLISHED ") and line.endswith(b"\n"):
-            published[int(line.split()[1])] = batch
-        elif not (batch.refusal and line == batch.refusal + b"\n"):
-            return published, [batch]
+    for count in (1, 1, 3):
+        batches = [bench.batch() for _ in range(count)]
+        left = take(batches, life.submit(*batches), published)
+        if left:
+            return published, left
     return published, []
 
 
@@ -426,7 +432,7 @@ def changes_of(bench, count, found):
     life = bench.must_start()
     sizes = [bench.journal.stat().st_size]
     while len(sizes) < 21:
-        if life.submit(bench.batch()).startswith(b"PUBLISHED"):
+        if life.submit(bench.batch())[0].startswith(b"PUBLISHED"):
             sizes.append(bench.journal.stat().st_size)
     life.end()
     data = bench.journal.read_bytes()

@@ -4,8 +4,8 @@
 The journals stand in FOLDER, so on its disk; in a folder of the system's for files of a moment where it isn't given. First it
 measures what the disk takes to sync 4 KB at the end of a file (write and fsync, for so many SECONDS, 5 where it isn't given).
 Then a served map gets batches of one command without pause, with a journal and without: by one submitter on one connection, by one
-and by eight on a connection for each batch. A line has the batches a second, and the median and the 99th of 100 in milliseconds
-from the first byte that is sent to the answer. Another client asks for a tile of 256 by 256 pixels meanwhile, again and again on
+that sends ten ahead of their answers, by one and by eight on a connection for each batch. A line has the batches a second, and the
+median and the 99th of 100 in milliseconds from the first byte that is sent to the answer, of ten to the last answer. Another client asks for a tile of 256 by 256 pixels meanwhile, again and again on
 one connection: its median and 99th are in the same line, behind those of a line without batches.
 
 At last the seconds from the start to the line that says where the ports are: with a journal of 10,000 batches of one command, and
@@ -55,19 +55,19 @@ class Submitter:
     def __init__(self, port, keeps):
         self.port, self.keeps, self.stream = port, keeps, None
 
-    def submit(self, batch):
+    def submit(self, *batches):
         if self.stream is None:
             self.stream = socket.create_connection(("127.0.0.1", self.port))
             self.stream.setsockopt(socket.IPPROTO_TCP, socket.TCP_NODELAY, 1)
-        self.stream.sendall(b"BATCH %d\n" % len(batch) + batch)
-        line = b""
-        while not line.endswith(b"\n"):
-            got = self.stream.recv(100)
+        self.stream.sendall(b"".join(b"BATCH %d\n" % len(batch) + batch for batch in batches))
+        lines = b""
+        while lines.count(b"\n") < len(batches):
+            got = self.stream.recv(1_000)
             if not got:
-                sys.exit(f"journal_times: the connection ended after {line}")
-            line += got
-        if not line.startswith(b"PUBLISHED "):
-            sys.exit(f"journal_times: {line}")
+                sys.exit(f"journal_times: the connection ended after {lines}")
+            lines += got
+        if not all(line.startswith(b"PUBLISHED ") for line in lines.splitlines()):
+            sys.exit(f"journal_times: {lines}")
         if not self.keeps:
             self.close()
 
@@ -106,20 +106,20 @@ def ask(port, until, times):
     client.close()
 
 
-def submit_all(port, keeps, until, times):
+def submit_all(port, keeps, ahead, until, times):
     submitter, number = Submitter(port, keeps), 0
     while time.monotonic() < until:
         began = time.monotonic()
-        submitter.submit(BATCHES[number % 2])
-        times.append(time.monotonic() - began)
-        number += 1
+        submitter.submit(*(BATCHES[(number + after) % 2] for after in range(ahead)))
+        times.extend([time.monotonic() - began] * ahead)
+        number += ahead
     submitter.close()
 
 
-def meanwhile(server, seconds, count, keeps):
-    """What batches took that so many submit, and what pictures took meanwhile."""
+def meanwhile(server, seconds, count, keeps, ahead):
+    """What batches took that so many submit, each so many ahead, and what pictures took meanwhile."""
     until, batches, pictures = time.monotonic() + seconds, [], []
-    threads = [threading.Thread(target=submit_all, args=(server.administration, keeps, until, batches)) for _ in range(count)]
+    threads = [threading.Thread(target=submit_all, args=(server.administration, keeps, ahead, until, batches)) for _ in range(count)]
     threads.append(threading.Thread(target=ask, args=(server.port, until, pictures)))
     for thread in threads:
         thread.start()
@@ -144,11 +144,12 @@ def make_map(folder):
 
 def beside_pictures(program, folder, seconds):
     with Server(program, folder) as server:
-        row("no batches", seconds, *meanwhile(server, seconds, 0, True))
-    for named, count, keeps in (("one submitter, one connection", 1, True), ("one submitter", 1, False), ("eight submitters", 8, False)):
+        row("no batches", seconds, *meanwhile(server, seconds, 0, True, 1))
+    for named, count, keeps, ahead in (("one submitter, one connection", 1, True, 1), ("one submitter, ten ahead", 1, True, 10),
+                                       ("one submitter", 1, False, 1), ("eight submitters", 8, False, 1)):
         for words, journal in (("without a journal", None), ("with a journal", "times.journal")):
             with Server(program, folder, journal) as server:
-                row(f"{named}, {words}", seconds, *meanwhile(server, seconds, count, keeps))
+                row(f"{named}, {words}", seconds, *meanwhile(server, seconds, count, keeps, ahead))
 
 
 def start_after(program, folder, name, batches):

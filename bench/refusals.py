@@ -55,6 +55,8 @@ def may_be(name, got, right):
     """Whether this may be printed where the first attempt was refused a growth."""
     if name == "submit":
         return got in (REFUSED_BATCH, HELD_ONCE)
+    if name == "accept":
+        return got in ACCEPTED_LATER
     if name == "share":
         return got == REFUSED + right
     if name == "exchange":
@@ -78,6 +80,10 @@ REFUSED_BATCH = (
 )
 HELD_ONCE = ">\n<\nHeld, readers see Some(0)\n>\n<\nPublished, readers see Some(1)\n>\n<\nIdle, readers see Some(1)\nshared true\n"
 HELD_TWICE = ">\n<\nHeld, readers see Some(0)\n>\n<\nHeld, readers see Some(0)\n>\n<\nPublished, readers see Some(1)\nshared true\n"
+# none or one of two batches is accepted at first
+ACCEPTED_LATER = [
+    f">\n<\n{count} accepted\n>\n<\n{2 - count} accepted\n>\n<\nPublished, readers see Some(2)\nshared true\n" for count in (0, 1)
+]
 
 
 def expected():
