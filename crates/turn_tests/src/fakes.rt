@@ -73,9 +73,12 @@ impl<R: Wait + Drop> Transport for Watched<R> {
     }
 
     fn write(&mut self, first: &[u8], second: &[u8]) -> WriteOutcome {
-        let before = self.client.out.len();
         let outcome = self.client.write(first, second);
-        let taken = self.client.out.get(before..).unwrap_or(&[]);
+        let WriteOutcome::Bytes(count) = outcome else {
+            return outcome;
+        };
+        let part = if first.is_empty() { second } else { first };
+        let taken = part.get(..count).unwrap_or(&[]);
         match self.got.lock(&self.rt).extend_from_slice(taken) {
             Ok(()) => outcome,
             Err(_) => WriteOutcome::Failed,
