@@ -1,6 +1,6 @@
 -- Fields that are texts, and texts without the spaces at their ends.
 use Rattle.std.proofs.Common.{◌≡◌, ◌<◌, ◌≤◌, ◌+◌, ◌-◌, ℕ, zero, suc, Bool, true, false, List, [], ◌∷◌, ◌++◌, length, take, drop, get_or, None, Some, refl, ap, sym, arith, rules, ◌∙◌}
-use Rattle.std.specs.Prelude.{◌==◌, reverse, Ok, Err, IsUtf8}
+use Rattle.std.specs.Prelude.{◌==◌, reverse, Ok, Err, IsUtf8, nat_lt}
 use Rattle.std.specs.List.{list_all}
 use Rattle.std.specs.Str.{is_utf8}
 use Rattle.std.proofs.lemmas.List.{append-nil, append_assoc, reverse-append, reverse-reverse, take_more}
@@ -8,8 +8,9 @@ use Rattle.std.proofs.lemmas.Grind.{reverse_onto}
 use Rattle.std.proofs.lemmas.Str.{is_utf8-from_IsUtf8, IsUtf8-from_is_utf8}
 use Rattle.csv.specs.Records.{field_at}
 use Rattle.csvpoints.proofs.Records.{one-more}
-use Rattle.csvpoints.specs.declared.fault.CsvKind.TheVariants.{NotText}
-use Rattle.csvpoints.specs.Row.{after_spaces, before_spaces, texts_of}
+use Rattle.csvpoints.specs.declared.fault.CsvKind.TheVariants.{Limit, NotText}
+use Rattle.csvpoints.specs.Row.{after_spaces, before_spaces, columns_of, texts_of}
+use Rattle.mapdefs.specs.declared.limits.TheConstants.{MAX_ITEMS}
 
 -- two numbers that differ
 not-equal : (a b : ℕ) → ¬ (a ≡ b) → (a == b) ≡ false
@@ -86,3 +87,20 @@ pub other-bytes : (fields texts : List (List ℕ)) (i : ℕ) (f : List ℕ) → 
 other-bytes fields texts i f at bytes h =
     let (all, utf8) = rw (field-some fields i f at, not-text f bytes) at h in
     rw (← utf8) refl
+
+-- a field that is UTF-8 leaves it to those after it whether all fields are
+pub one-passed : (fields : List (List ℕ)) (i : ℕ) (f : List ℕ) → field_at fields i ≡ Some f → IsUtf8 f →
+    list_all is_utf8 (drop i fields) ≡ list_all is_utf8 fields → list_all is_utf8 (drop (i + 1) fields) ≡ list_all is_utf8 fields
+one-passed fields i f at text h = rw (one-more i) (rw (is_utf8-from_IsUtf8 f text) at (rw (field-some fields i f at) at h))
+
+-- a header with a field that isn't UTF-8 is refused for that, and one with too many columns otherwise
+pub passed-not-text : (fields : List (List ℕ)) (i : ℕ) (f : List ℕ) → field_at fields i ≡ Some f → ¬ (IsUtf8 f) →
+    list_all is_utf8 (drop i fields) ≡ list_all is_utf8 fields → (x y : List ℕ) → columns_of x y fields ≡ Err NotText
+passed-not-text fields i f at bytes h x y = let utf8 = rw (field-some fields i f at, not-text f bytes) at h in rw (← utf8) refl
+
+pub passed-too-many : (fields : List (List ℕ)) (i : ℕ) → field_at fields i ≡ None → list_all is_utf8 (drop i fields) ≡ list_all is_utf8 fields →
+    MAX_ITEMS < length fields → (x y : List ℕ) → columns_of x y fields ≡ Err Limit
+passed-too-many fields i at h long x y =
+    let utf8 = rw (field-none fields i at) at h in
+    let many : nat_lt MAX_ITEMS (length fields) ≡ true = search rules in
+    rw (← utf8, many) refl

@@ -1,7 +1,8 @@
-ghost use Rattle.std.specs.Prelude.{◌≡◌, ◌≤◌, length, Ok, IfOk, IfErr, MatchResult, All};
+ghost use Rattle.std.specs.Prelude.{◌≡◌, ◌≤◌, ◌<◌, ℕ, List, length, Ok, Err, IfOk, IfErr, MatchResult, All};
 ghost use Rattle.csv.specs.Records.{fields_of};
 ghost use Rattle.csvpoints.specs.Fault.{IsFaultOf};
-ghost use Rattle.csvpoints.specs.Row.{HasColumns};
+ghost use Rattle.csvpoints.specs.Row.{HasColumns, columns_of};
+ghost use Rattle.mapdefs.specs.declared.limits.TheConstants.{MAX_ITEMS};
 ghost use Rattle.csvpoints.specs.Source.{records_of, left, IsReading};
 ghost use Rattle.csvpoints.specs.Table.{header_of, features_of, table_of, IsPointWith};
 
@@ -10,7 +11,7 @@ use crate::header::{Columns, columns_of};
 use crate::row::{feature_of, texts_of};
 use crate::source::{read_record, reader_of};
 use csv::{ByteRecord, Reader};
-use mapdefs::{Feature, Items, Limited, Limits, Text};
+use mapdefs::{Feature, Items, Limited, Limits, MAX_ITEMS, Text};
 use std::alloc::Global;
 
 /// What a table says.
@@ -31,6 +32,20 @@ impl Limits for TableFields {
 /// A table of points: at most `MAX_ITEMS` columns, and features of one point and one value for each column.
 pub type Table = Limited<TableFields>;
 
+// What is wrong with a header of more than `MAX_ITEMS` columns. Their names aren't kept, however many there are.
+fn fault_of_long_header(row: &ByteRecord) -> CsvKind
+    requires { MAX_ITEMS < length (fields_of row.now) }
+    ensures { (x y : List ℕ) → columns_of x y (fields_of row.now) ≡ Err result }
+{
+    for field in row {
+        match str::from_utf8(field) {
+            Ok(_) => {}
+            Err(_) => return CsvKind::NotText,
+        }
+    }
+    CsvKind::Limit
+}
+
 // Reads the header: its names, and the columns of the coordinates.
 fn read_header(
     alloc: Global,
@@ -48,6 +63,10 @@ fn read_header(
 {
     if !read_record(reader, row)? {
         let kind = CsvKind::NoHeader;
+        return Err(CsvError::Fault(CsvFault { row: 1, kind }));
+    }
+    if row.len() > MAX_ITEMS {
+        let kind = fault_of_long_header(row);
         return Err(CsvError::Fault(CsvFault { row: 1, kind }));
     }
     let names = texts_of(alloc, row, 1)?;
