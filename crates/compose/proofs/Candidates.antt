@@ -6,16 +6,16 @@ use Rattle.std.proofs.lemmas.List.{get_or-append-add}
 use Rattle.std.proofs.lemmas.Map.Keys.{below_from_sorted, sorted_from_strictly_increasing, sorted_tail}
 use Rattle.std.specs.List.{Contains, flat_map, list_any, slice_get}
 use Rattle.std.specs.List.Sorted.{IsStrictlySortedBy}
-use Rattle.compose.proofs.Painting.{colour_at-append, colour_at-none, colour_at-one}
-use Rattle.compose.specs.Paint.{PaintedShape, colour_in, covers}
-use Rattle.compose.specs.Picture.{colour_at}
+use Rattle.canvas.proofs.Painting.{colour_at-append, colour_at-none, colour_at-one}
+use Rattle.canvas.specs.Shapes.{PaintedShape, colour_in, covers}
+use Rattle.canvas.specs.Painted.{colour_at}
 use Rattle.mapdefs.specs.declared.colour.Rgb.{Rgb}
 use Rattle.mapdefs.specs.declared.feature.FeatureFields.{FeatureFields}
 use Rattle.compose.specs.Near.{CandidatesPaintAll}
 use Rattle.compose.specs.Walk.{given_at}
 use Rattle.geom.proofs.Rising.{first-least, first-below}
 use Rattle.mapdefs.proofs.Containing.{first_or}
-use Rattle.compose.proofs.Finding.{here, there}
+use Rattle.vertices.proofs.Finding.{here, there}
 
 -- shapes of which none covers the pixel leave its colour
 pub quiet : (background : Option Rgb) (shapes : List PaintedShape) (i j : ℕ) → list_any (λ t. covers t i j) shapes ≡ false → colour_at background shapes i j ≡ background

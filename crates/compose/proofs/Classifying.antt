@@ -8,7 +8,7 @@ use Rattle.scene.specs.Scene.{SceneValue}
 use Rattle.compose.specs.Drawn.{DrawingValue, IsDrawn}
 use Rattle.compose.specs.Labels.{classified_candidates}
 use Rattle.compose.specs.Walk.{ClassifiedFeatureValue, classified_shapes}
-use Rattle.compose.proofs.Painting.{painted-append, painted-none}
+use Rattle.canvas.proofs.Painting.{painted-append, painted-none}
 
 -- where no feature is classified, all stays
 pub drawn-none : (scene : SceneValue) (a : DrawingValue) → IsDrawn scene a a []

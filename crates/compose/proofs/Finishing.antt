@@ -16,9 +16,10 @@ use Rattle.viewport.specs.View.{ViewValue}
 use Rattle.compose.specs.Drawn.{DrawingValue, HasLabels, IsDrawn}
 use Rattle.compose.specs.Labels.{ArePlaced, candidate_list, ink_list}
 use Rattle.compose.specs.Paint.{paint_list}
-use Rattle.compose.specs.Picture.{HasOnePicture, IsPictureOf, colour_at}
+use Rattle.canvas.specs.Painted.{colour_at}
+use Rattle.compose.specs.Picture.{HasOnePicture, IsPictureOf}
 use Rattle.compose.specs.Walk.{classified_list}
-use Rattle.compose.proofs.Painting.{painted-append, painted-area, painted-pixels}
+use Rattle.canvas.proofs.Painting.{painted-append, painted-area, painted-pixels}
 use Rattle.compose.proofs.Walking.{paint-list-of-classified}
 
 -- a canvas of the background, without candidates

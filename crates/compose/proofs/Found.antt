@@ -23,7 +23,7 @@ use Rattle.compose.specs.Walk.{given_at, classified_feature}
 use Rattle.geom.proofs.Rising.{first-least, first-below}
 use Rattle.compose.proofs.Candidates.{AreFrom, at-start, one-on}
 use Rattle.mapdefs.proofs.Containing.{first_or}
-use Rattle.compose.proofs.Finding.{here, there}
+use Rattle.vertices.proofs.Finding.{here, there}
 use Rattle.compose.proofs.NearAnchors.{anchors-near}
 use Rattle.compose.proofs.Walking.{nested}
 

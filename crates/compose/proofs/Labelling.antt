@@ -19,9 +19,9 @@ use Rattle.mapdefs.specs.declared.picture.PictureFields.{PictureFields}
 use Rattle.scene.specs.Scene.{SceneValue}
 use Rattle.compose.specs.Drawn.{HasLabels}
 use Rattle.compose.specs.Labels.{ArePlaced, candidate_at, ink_list, label_text, label_shapes, classified_candidates}
-use Rattle.compose.specs.Paint.{Inked, Outlined, Written}
-use Rattle.compose.specs.Painted.{IsFilled, IsPainted}
-use Rattle.compose.proofs.Painting.{painted-none, painted-shape}
+use Rattle.canvas.specs.Shapes.{Inked, Outlined, Written}
+use Rattle.canvas.specs.Painted.{IsFilled, IsPainted}
+use Rattle.canvas.proofs.Painting.{painted-none, painted-shape}
 
 module _ (w : Written) (glyphs : List GlyphValue) (colour : Rgb) (a b : PictureFields) (are : glyphs ≡ glyphs_from w.font w.at 0 w.characters) where
   -- the pixels of a text's glyphs

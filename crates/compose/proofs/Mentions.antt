@@ -27,12 +27,13 @@ use Rattle.viewport.specs.View.{ViewValue, window}
 use Rattle.compose.specs.Anchor.{shown_anchor}
 use Rattle.compose.specs.Drawn.{DrawingValue, IsDrawn, IsMentioned}
 use Rattle.compose.specs.Labels.{candidate_at, candidate_list, has_label, label_text, classified_candidates}
-use Rattle.compose.specs.Paint.{PaintedShape, chosen_shapes, colour_in, covers, paint_list}
-use Rattle.compose.specs.Painted.{IsPainted, colour_of}
-use Rattle.compose.specs.Picture.{LastMentionsPaintAll, colour_at}
+use Rattle.canvas.specs.Shapes.{PaintedShape, colour_in, covers}
+use Rattle.compose.specs.Paint.{chosen_shapes, paint_list}
+use Rattle.canvas.specs.Painted.{IsPainted, colour_of, colour_at}
+use Rattle.compose.specs.Picture.{LastMentionsPaintAll}
 use Rattle.compose.specs.Walk.{ClassifiedFeatureValue, given_at, classified_chosen, classified_feature, classified_list}
 use Rattle.compose.proofs.Found.{found-label-all}
-use Rattle.compose.proofs.Painting.{colour_at-append, painted-append, painted-none}
+use Rattle.canvas.proofs.Painting.{colour_at-append, painted-append, painted-none}
 use Rattle.compose.proofs.Walking.{of-chosen, paint-list-of-classified}
 
 -- of the chosen layers, the done ones have been mentioned, and the rest has not: what is painted are those that are kept, with which the rest

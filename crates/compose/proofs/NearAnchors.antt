@@ -19,7 +19,7 @@ use Rattle.viewport.proofs.Windows.{window-law}
 use Rattle.viewport.specs.View.{IsNear, ViewValue, device_point, window}
 use Rattle.compose.specs.Anchor.{AnchorsAreNear, anchor_on, halfway, is_shown, middle, middle_of, shown_pixel}
 use Rattle.mapdefs.proofs.Containing.{any-weaker}
-use Rattle.compose.proofs.Finding.{any-one, contains-flat, here, there}
+use Rattle.vertices.proofs.Finding.{any-one, contains-flat, here, there}
 
 -- a number that belongs to one of some places
 has-number : (f : Place → ℤ) (p : Place) (ps : List Place) (r : ℤ) → (r ≡ f p) ⊎ Contains (map f ps) r → Any (λ q. f q ≡ r) (p ∷ ps)

@@ -4,7 +4,9 @@ use Rattle.std.proofs.Math.Nat.{le-max_left, le-max_right}
 use Rattle.std.proofs.lemmas.List.Folds.{list_any-append}
 use Rattle.std.specs.List.{Contains, flat_map, list_any, slice_get}
 use Rattle.std.specs.Option.{option_map_or}
-use Rattle.compose.specs.Paint.{PaintedShape, class_shapes, covers, fills, marks, parts_of, point_shapes, polygon_shapes, stamps, strokes, style_shapes}
+use Rattle.canvas.specs.Shapes.{PaintedShape, covers, fills, marks, stamps, strokes}
+use Rattle.inking.specs.Styles.{point_shapes}
+use Rattle.compose.specs.Paint.{class_shapes, parts_of, polygon_shapes, style_shapes}
 use lib.IntN.{pos}
 use Rattle.geom.specs.Device.{DevicePoint, pixel_centre, pixel_of}
 use Rattle.geom.specs.EvenOdd.{is_inside}
@@ -27,10 +29,10 @@ use Rattle.symbols.specs.Stamp as stamp
 use Rattle.viewport.specs.View.{ViewValue, device_point}
 use Rattle.mapdefs.specs.Near.{points_of}
 use Rattle.compose.specs.Near.{PaintsNear, furthest, margin_of, reach_of, side_of, symbol_reach}
-use Rattle.compose.proofs.NearBoxes.{AreRound, box-in}
-use Rattle.compose.proofs.Finding.{any-flat_map, contains-flat, found-there}
-use Rattle.compose.proofs.NearLines.{line-round}
-use Rattle.compose.proofs.NearShapes.{IsBy, by-round, fill-round, square-by, stamp-by}
+use Rattle.vertices.proofs.NearBoxes.{AreRound, box-in}
+use Rattle.vertices.proofs.Finding.{any-flat_map, contains-flat, found-there}
+use Rattle.vertices.proofs.NearLines.{line-round}
+use Rattle.vertices.proofs.NearShapes.{IsBy, by-round, fill-round, square-by, stamp-by}
 
 -- no style of the list paints further than the furthest
 pub reach-furthest : (symbols : List Symbol) (styles : List StyleFields) (style : StyleFields) → Contains styles style → reach_of symbols style ≤ furthest symbols styles

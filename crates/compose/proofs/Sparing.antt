@@ -21,7 +21,7 @@ use Rattle.scene.specs.Scene.{SceneValue}
 use Rattle.compose.proofs.Found.{found-label-all, given-nested}
 use Rattle.compose.proofs.Walking.{nested, of-feature}
 use Rattle.compose.specs.Paint.{feature_shapes}
-use Rattle.compose.specs.Painted.{IsPainted, colour_of}
+use Rattle.canvas.specs.Painted.{IsPainted, colour_of}
 use Rattle.compose.proofs.Candidates.{paint-all}
 use Rattle.compose.proofs.NearThings.{paints-near}
 

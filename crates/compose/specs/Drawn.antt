@@ -6,7 +6,7 @@ use Rattle.labelcache.specs.declared.cache.Placed.{Placed}
 use Rattle.mapdefs.specs.declared.picture.PictureFields.{PictureFields}
 use Rattle.scene.specs.Scene.{SceneValue}
 use Rattle.compose.specs.Labels.{ArePlaced, ink_list, classified_candidates}
-use Rattle.compose.specs.Painted.{IsPainted}
+use Rattle.canvas.specs.Painted.{IsPainted}
 use Rattle.compose.specs.Walk.{ClassifiedFeatureValue, classified_chosen, classified_shapes}
 
 -- a picture while it is drawn, and the candidates for its labels so far

@@ -22,8 +22,8 @@ use Rattle.mapdefs.specs.declared.layer.LayerFields.{LayerFields}
 use Rattle.mapdefs.specs.declared.map.MapFields.{MapFields}
 use Rattle.viewport.specs.View.{ViewValue, window}
 use Rattle.compose.specs.Anchor.{shown_anchor}
-use Rattle.compose.specs.Paint.{PaintedShape, Written}
-use Rattle.compose.specs.Paint as paint
+use Rattle.canvas.specs.Shapes.{PaintedShape, Written}
+use Rattle.canvas.specs.Shapes as shape
 use Rattle.compose.specs.Walk.{ClassifiedFeatureValue, given_at, classified_feature, classified_list}
 
 -- the first so many characters of a text
@@ -79,11 +79,11 @@ ArePlaced view (Some font) candidates labels = IsPlacement (setting (record { wi
 -- outline and glyphs are painted where there is a colour
 abbrev pub outlines : Written → Option Rgb → List PaintedShape
 outlines w None = []
-outlines w (Some colour) = paint.Outlined w colour ∷ []
+outlines w (Some colour) = shape.Outlined w colour ∷ []
 
 abbrev pub inks : Written → Option Rgb → List PaintedShape
 inks w None = []
-inks w (Some colour) = paint.Inked w colour ∷ []
+inks w (Some colour) = shape.Inked w colour ∷ []
 
 -- what is painted of a candidate whose text has its corner at a pixel: its outline, and then its glyphs
 abbrev pub candidate_shapes : FontFields → CandidateValue → PixelValue → List PaintedShape

@@ -3,7 +3,7 @@ use Rattle.std.specs.Prelude.{◌≡◌, ℕ, ◌<◌, max, true, List, [], ◌�
 use Rattle.std.specs.List.{Contains, flat_map, list_any}
 use Rattle.std.specs.List.Sorted.{IsStrictlyIncreasing}
 use Rattle.mapdefs.specs.declared.colour.Rgb.{Rgb}
-use Rattle.compose.specs.Picture.{colour_at}
+use Rattle.canvas.specs.Painted.{colour_at}
 use Rattle.std.specs.Option.{option_map_or}
 use Rattle.geom.specs.Scale.{PictureScale}
 use Rattle.geom.specs.Side.{IsPictureSide}
@@ -14,7 +14,8 @@ use Rattle.mapdefs.specs.declared.layer.LayerFields.{LayerFields}
 use Rattle.mapdefs.specs.declared.style.StyleFields.{StyleFields}
 use Rattle.mapdefs.specs.declared.symbol.Symbol.{Symbol}
 use Rattle.viewport.specs.View.{ViewValue, window}
-use Rattle.compose.specs.Paint.{PaintedShape, covers, feature_shapes}
+use Rattle.canvas.specs.Shapes.{PaintedShape, covers}
+use Rattle.compose.specs.Paint.{feature_shapes}
 use Rattle.compose.specs.Walk.{given_at}
 use Rattle.mapdefs.specs.Near.{HasBoxIn}
 

@@ -1,8 +1,8 @@
 ghost use Rattle.std.specs.Prelude.{◌≡◌, ◌*◌, [], IfOk, replicate};
 ghost use Rattle.compose.specs.Drawn.{HasLabels};
 
-use crate::canvas::Canvas;
 use crate::ink::paint_labels;
+use canvas::Canvas;
 use labelcache::Cache;
 use mapdefs::Rgb;
 use scene::Scene;

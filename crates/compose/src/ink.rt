@@ -5,11 +5,9 @@ ghost use Rattle.bdffont.specs.declared.text.TheConstants.{MAX_CHARACTERS};
 ghost use Rattle.labelink.specs.Ink.{outlines_glyph};
 ghost use Rattle.compose.specs.Drawn.{HasLabels};
 ghost use Rattle.compose.specs.Labels.{candidate_shapes, inks, label_shapes, outlines};
-ghost use Rattle.compose.specs.Painted.{IsFilled, IsPainted};
+ghost use Rattle.canvas.specs.Painted.{IsFilled, IsPainted};
 
-use crate::canvas::Canvas;
-use crate::lines::paint_covers;
-use crate::rows::paint_cover;
+use canvas::{Canvas, paint_cover, paint_covers};
 use geom::Pixel;
 use labelcache::{Cache, Candidate, Placed};
 use labelink::{GlyphOutline, PlacedGlyph, text_glyphs};
@@ -31,7 +29,7 @@ impl<'a> Model for WrittenText<'a> {
     ghost use Rattle.std.specs.Prelude.{◌≡◌};
     ghost use Rattle.std.specs.Str.{chars};
     ghost use Rattle.labelink.specs.Ink.{glyphs_from};
-    ghost use Rattle.compose.specs.Paint.{Written};
+    ghost use Rattle.canvas.specs.Shapes.{Written};
 
     ghost Value = { Written };
 

@@ -1,19 +1,18 @@
 ghost use Rattle.std.specs.Prelude.{◌≡◌, ◌<◌, ◌*◌, All, IfOk, OnOk, length};
 ghost use Rattle.std.specs.List.{flat_map};
 ghost use Rattle.compose.specs.Drawn.{IsDrawn, IsMentioned};
-ghost use Rattle.compose.specs.Painted.{IsPainted};
+ghost use Rattle.canvas.specs.Painted.{IsPainted};
 ghost use Rattle.compose.specs.Picture.{IsPictureOf};
 ghost use Rattle.compose.specs.Walk.{given_at, classified_chosen, classified_feature, classified_shapes};
 
-use crate::canvas::Canvas;
 use crate::classified_feature::ClassifiedFeature;
 use crate::drawing::Drawing;
 use crate::label::add_candidate;
 use crate::labelled_layer::add_layer;
-use crate::lines::paint_lines;
 use crate::margin::margin_of;
-use crate::points::paint_points;
-use crate::polygons::paint_polygon;
+use crate::polygon::paint_polygon;
+use canvas::Canvas;
+use inking::{paint_lines, paint_points};
 use mapdefs::{FeatureFields, Geometry, LayerFields, Map, Near, Picture, Rgb};
 use scaledenom::Scale;
 use scene::Scene;

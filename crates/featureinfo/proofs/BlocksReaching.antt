@@ -12,7 +12,7 @@ use Rattle.mapdefs.proofs.BlockBoxes.{block-has}
 use Rattle.mapdefs.specs.Blocks.{AreBlockBoxes}
 use Rattle.viewport.specs.View.{ViewValue, device_point, height_of}
 use Rattle.viewport.proofs.Rising.{rising-law}
-use Rattle.compose.proofs.Flipping.{sixteenths-rising}
+use Rattle.vertices.proofs.Placing.{sixteenths-rising}
 use Rattle.featureinfo.specs.Reach.{box_reaches, is_within, part_reaches}
 use Rattle.featureinfo.specs.declared.side.Side.{Side}
 use Rattle.featureinfo.specs.declared.side.Side.TheVariants.{Right, Left, Bottom, Top}

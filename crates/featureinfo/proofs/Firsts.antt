@@ -4,7 +4,7 @@ use Rattle.std.proofs.lemmas.List.Elements.{All-nil, All-cons, All-append, Conta
 use Rattle.std.proofs.lemmas.List.Kept.{AllPairs-cons}
 use Rattle.std.specs.List.{AllPairs, Contains}
 use Rattle.mapdefs.proofs.Containing.{first_or}
-use Rattle.compose.proofs.Finding.{here}
+use Rattle.vertices.proofs.Finding.{here}
 use Rattle.featureinfo.specs.Hits.{AreFirstAmong}
 
 -- an element of a list has what all have

@@ -17,7 +17,7 @@ use Rattle.mapdefs.specs.declared.layer.LayerFields.{LayerFields}
 use Rattle.scene.specs.Scene.{SceneValue}
 use Rattle.viewport.specs.View.{ViewValue, device_point, window}
 use Rattle.mapdefs.proofs.Containing.{any-weaker}
-use Rattle.compose.proofs.NearBoxes.{AreRound, box-in}
+use Rattle.vertices.proofs.NearBoxes.{AreRound, box-in}
 use Rattle.featureinfo.specs.Hits.{AreFirstAmong, AreHits, IsHitAt, IsNear}
 use Rattle.featureinfo.specs.Nearby.{nearby_of}
 use Rattle.featureinfo.specs.Reach.{is_within, limit_of}

@@ -3,7 +3,7 @@ use Rattle.std.proofs.Common.{◌≡◌, ℕ, suc, ◌-◌, ◌<◌, ◌≤◌, 
 use Rattle.std.proofs.lemmas.List.Elements.{Contains-append_right}
 use Rattle.std.specs.List.{AllPairs, Contains}
 use Rattle.mapdefs.proofs.Containing.{first_or}
-use Rattle.compose.proofs.Finding.{here}
+use Rattle.vertices.proofs.Finding.{here}
 use Rattle.featureinfo.specs.Hits.{AreFirst, HasOneHitList, IsHitAt}
 use Rattle.featureinfo.proofs.Firsts.{of-all}
 

@@ -19,10 +19,10 @@ use Rattle.strokes.specs.Segment.{covers_segment}
 use Rattle.strokes.specs.Square.{covers_square, is_beside}
 use Rattle.viewport.specs.View.{ViewValue, device_point}
 use Rattle.strokes.proofs.Short.{or-cases}
-use Rattle.compose.proofs.Finding.{must-pass}
-use Rattle.compose.proofs.NearEdges.{parts-fail}
-use Rattle.compose.proofs.NearLines.{bottom-segment, left-segment, right-segment, segments-edges, squares-points, top-segment}
-use Rattle.compose.proofs.NearShapes.{above-fails, below-fails, left-inside, none-inside, right-fails}
+use Rattle.vertices.proofs.Finding.{must-pass}
+use Rattle.vertices.proofs.NearEdges.{parts-fail}
+use Rattle.vertices.proofs.NearLines.{bottom-segment, left-segment, right-segment, segments-edges, squares-points, top-segment}
+use Rattle.vertices.proofs.NearShapes.{above-fails, below-fails, left-inside, none-inside, right-fails}
 use Rattle.featureinfo.specs.Hits.{covers_plainly}
 use Rattle.featureinfo.specs.Reach.{is_far, is_within, limit_of, reaches}
 use Rattle.featureinfo.specs.declared.nearby.Nearby.{Nearby}

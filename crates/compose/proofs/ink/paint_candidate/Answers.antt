@@ -1,5 +1,5 @@
 use Rattle.std.proofs.lemmas.Result.{on_ok_weaker}
-use Rattle.compose.proofs.Painting.{painted-append}
+use Rattle.canvas.proofs.Painting.{painted-append}
 use Rattle.compose.proofs.ink.paint_candidate.Goals as goal
 
 pub returns : goal.returns

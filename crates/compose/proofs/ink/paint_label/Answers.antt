@@ -1,4 +1,4 @@
-use Rattle.compose.proofs.Painting.{painted-none}
+use Rattle.canvas.proofs.Painting.{painted-none}
 use Rattle.compose.proofs.ink.paint_label.Goals as goal
 
 pub returns-in-None : goal.returns-in-None

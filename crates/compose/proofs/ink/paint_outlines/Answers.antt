@@ -1,7 +1,7 @@
 use Rattle.std.proofs.Common.{Some, ℕ}
 use lib.IntN.{pos}
 use Rattle.labelink.specs.Ink.{GlyphValue, outlines_glyph}
-use Rattle.compose.proofs.Filling.{filled_next}
+use Rattle.canvas.proofs.Filling.{filled_next}
 use Rattle.compose.proofs.ink.paint_outlines.Goals as goal
 
 pub loop-glyph-preserved : goal.loop-glyph-preserved

@@ -2,7 +2,7 @@ use Rattle.std.proofs.Common.{Some, take}
 use Rattle.std.specs.List.{list_any}
 use lib.IntN.{pos}
 use Rattle.labelink.specs.Ink.{outlines_glyph}
-use Rattle.compose.specs.Painted.{IsFilled}
+use Rattle.canvas.specs.Painted.{IsFilled}
 use Rattle.compose.proofs.ink.paint_outlines.Given as goal
 
 abbrev pub invariant-loop-glyph : goal.invariant-loop-glyph

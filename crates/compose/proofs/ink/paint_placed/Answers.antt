@@ -1,6 +1,6 @@
 use Rattle.std.proofs.Common.{arith}
 use Rattle.compose.specs.Labels.{label_shapes}
-use Rattle.compose.proofs.Painting.{painted-none, painted_end, painted_next}
+use Rattle.canvas.proofs.Painting.{painted-none, painted_end, painted_next}
 use Rattle.compose.proofs.ink.paint_placed.Goals as goal
 
 pub loop-label-init : goal.loop-label-init

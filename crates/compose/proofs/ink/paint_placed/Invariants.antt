@@ -1,7 +1,7 @@
 use Rattle.std.proofs.Common.{take}
 use Rattle.std.specs.List.{flat_map}
 use Rattle.compose.specs.Labels.{label_shapes}
-use Rattle.compose.specs.Painted.{IsPainted}
+use Rattle.canvas.specs.Painted.{IsPainted}
 use Rattle.compose.proofs.ink.paint_placed.Given as goal
 
 abbrev pub invariant-loop-label : goal.invariant-loop-label

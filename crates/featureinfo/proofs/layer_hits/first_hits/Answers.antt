@@ -9,7 +9,7 @@ use Rattle.mapdefs.specs.declared.feature.FeatureFields.{FeatureFields}
 use Rattle.featureinfo.specs.Nearby.{nearby_of}
 use Rattle.featureinfo.proofs.Wanted.{is-wanted, not-wanted}
 use Rattle.viewport.specs.View.{ViewValue}
-use Rattle.compose.proofs.Finding.{here}
+use Rattle.vertices.proofs.Finding.{here}
 use Rattle.featureinfo.specs.Hits.{AreFirstAmong, IsHitAt}
 use Rattle.featureinfo.proofs.Firsts.{skips, adds, ends, stops}
 use Rattle.featureinfo.proofs.layer_hits.first_hits.Goals as goal

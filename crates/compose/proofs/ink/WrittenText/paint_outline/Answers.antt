@@ -1,9 +1,9 @@
 use Rattle.std.proofs.Common.{◌∙◌}
 use Rattle.std.proofs.lemmas.Result.{on_ok_weaker}
 use Rattle.std.specs.Str.{chars}
-use Rattle.compose.specs.Paint.{Written}
+use Rattle.canvas.specs.Shapes.{Written}
 use Rattle.compose.proofs.Labelling.{outlined}
-use Rattle.compose.proofs.Painting.{painted-none}
+use Rattle.canvas.proofs.Painting.{painted-none}
 use Rattle.compose.proofs.ink.WrittenText.paint_outline.Goals as goal
 
 pub returns-in-Some : goal.returns-in-Some

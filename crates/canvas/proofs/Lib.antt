@@ -1,0 +1,4 @@
+pub mod Boxing
+pub mod Filling
+pub mod Painting
+pub mod Stamps

@@ -1,0 +1,4 @@
+pub mod Latitudes
+pub mod Margin
+pub mod Painted
+pub mod Shapes

@@ -1,0 +1,65 @@
+-- Shapes, the pixels that they cover, and the colours that they give (docs/DRAWING.md, "How features are painted").
+use Rattle.std.specs.Prelude.{ℕ, Bool, pos, List, [], ◌∷◌, Option, None, Some}
+use Rattle.geom.specs.Device.{DevicePoint, PixelValue, pixel_centre}
+use Rattle.geom.specs.EvenOdd.{is_inside}
+use Rattle.bdffont.specs.Ink.{has_ink}
+use Rattle.labelink.specs.Ink.{has_outline}
+use Rattle.mapdefs.specs.declared.colour.Rgb.{Rgb}
+use Rattle.mapdefs.specs.declared.font.FontFields.{FontFields}
+use Rattle.mapdefs.specs.declared.symbol.Symbol.{Symbol}
+use Rattle.strokes.specs.Line.{LineValue}
+use Rattle.strokes.specs.Line as line
+use Rattle.strokes.specs.Square.{SquareValue, covers_square}
+use Rattle.symbols.specs.Stamp.{StampValue, pixel_at}
+use Rattle.symbols.specs.Stamp as stamp
+
+-- a text on the picture: its characters in a font, with its corner
+pub record Written : Type 0 where
+  pub font : FontFields
+  pub characters : List ℕ
+  pub at : PixelValue
+
+-- a shape that is painted: rings that are filled with a colour, a line of a colour, a square of a colour, or a pixmap; and the
+-- outline round all glyphs of a text, or the glyphs, in a colour
+pub data PaintedShape : Type 0 where
+  Fill : List (List DevicePoint) → Rgb → PaintedShape
+  Stroke : LineValue → Rgb → PaintedShape
+  Mark : SquareValue → Rgb → PaintedShape
+  Stamped : StampValue → PaintedShape
+  Outlined : Written → Rgb → PaintedShape
+  Inked : Written → Rgb → PaintedShape
+
+-- whether a shape covers the pixel in a column and a row: rings cover a pixel whose centre lies inside of them
+abbrev pub covers : PaintedShape → ℕ → ℕ → Bool
+covers (Fill rings colour) i j = is_inside rings (pixel_centre (pos i) (pos j))
+covers (Stroke stroke colour) i j = line.covers_pixel stroke (pos i) (pos j)
+covers (Mark square colour) i j = covers_square square (pos i) (pos j)
+covers (Stamped pixmap) i j = stamp.covers_pixel pixmap (pos i) (pos j)
+covers (Outlined w colour) i j = has_outline w.font w.characters w.at (pos i) (pos j)
+covers (Inked w colour) i j = has_ink w.font w.characters w.at (pos i) (pos j)
+
+-- the colour that a shape gives to a pixel: a pixmap has one for each pixel that it covers, the others have one for all
+abbrev pub colour_in : PaintedShape → ℕ → ℕ → Option Rgb
+colour_in (Fill rings colour) i j = Some colour
+colour_in (Stroke stroke colour) i j = Some colour
+colour_in (Mark square colour) i j = Some colour
+colour_in (Stamped pixmap) i j = pixel_at pixmap (pos i) (pos j)
+colour_in (Outlined w colour) i j = Some colour
+colour_in (Inked w colour) i j = Some colour
+
+-- rings are filled, and a line or a square painted, where there is a colour
+abbrev pub fills : List (List DevicePoint) → Option Rgb → List PaintedShape
+fills rings None = []
+fills rings (Some colour) = Fill rings colour ∷ []
+
+abbrev pub strokes : LineValue → Option Rgb → List PaintedShape
+strokes stroke None = []
+strokes stroke (Some colour) = Stroke stroke colour ∷ []
+
+abbrev pub marks : SquareValue → Option Rgb → List PaintedShape
+marks square None = []
+marks square (Some colour) = Mark square colour ∷ []
+
+-- the pixmap of a symbol round a pixel
+abbrev pub stamps : PixelValue → Symbol → List PaintedShape
+stamps pixel symbol = Stamped (record { pixmap = symbol.pixmap; pixel = pixel }) ∷ []

@@ -1,0 +1,133 @@
+ghost use Rattle.std.specs.Prelude.{◌≡◌, ℕ, ◌+◌, ◌*◌, ◌<◌, ◌≤◌, ◌&&◌, Bool, if◌then◌else◌, length, All, Option, Some};
+ghost use Rattle.mapdefs.specs.declared.colour.Rgb.{Rgb as RgbValue};
+ghost use Rattle.scanfill.specs.Runs.{has_column, is_in_spans};
+ghost use Rattle.symbols.specs.Stamp.{is_coloured, is_transparent, pixel_from};
+ghost use Rattle.canvas.specs.Painted.{AreFilled, colour_of};
+
+use mapdefs::{PixelColour, Rgb};
+use scanfill::Span;
+use symbols::{RowPixels, is_transparent};
+
+/// Gives pixels of a row their colours: one colour to the pixels of some spans, or a row of a pixmap its own.
+pub trait Colouring {
+    // Whether it lies within a row with so many columns.
+    ghost fits: { Self → ℕ → Type 0 };
+
+    // Whether it has a colour for the pixel in a column, and that colour.
+    ghost has: { Self → ℕ → Bool };
+
+    ghost colour: { Self → ℕ → Option RgbValue };
+
+    /// Gives the pixels of a row their colours.
+    fn fill(&self, row: &mut [PixelColour])
+        requires { fits self.now (length row.old) }
+        ensures { (i : ℕ) → colour_of row.new i ≡ (if has self.now i then colour self.now i else colour_of row.old i) };
+}
+
+/// Spans of one colour.
+#[derive(Drop)]
+pub struct ColouredSpans<'a> {
+    pub spans: &'a [Span],
+    pub colour: Rgb,
+}
+
+impl Colouring for ColouredSpans<'_> {
+    ghost fits = { λ c width. All (λ span. (span.from ≤ span.to) × (span.to ≤ width)) c.spans.now };
+
+    ghost has = { λ c i. is_in_spans c.spans.now i };
+
+    ghost colour = { λ c i. Some c.colour };
+
+    fn fill(&self, row: &mut [PixelColour]) {
+        for span in self.spans {
+            fill_span(row, *span, self.colour);
+        }
+    }
+}
+
+// Gives the colour to the pixels of a span.
+fn fill_span(row: &mut [PixelColour], span: Span, colour: Rgb)
+    requires some { span.from ≤ span.to }
+    requires within { span.to ≤ length row.old }
+    ensures { (i : ℕ) → colour_of row.new i ≡ (if has_column span i then Some colour else colour_of row.old i) }
+{
+    row[usize::from(span.from)..usize::from(span.to)].fill(PixelColour::new(Some(colour)));
+}
+
+/// Gives the colour to the pixels in some columns and some rows of a picture that is so many pixels wide. Where the
+/// number of columns is known at compile time, a row takes a store or two.
+pub fn fill_box(pixels: &mut [PixelColour], width: u16, columns: Span, rows: Span, colour: Rgb)
+    requires some { 0 < width }
+    requires order { columns.from ≤ columns.to }
+    requires columns { columns.to ≤ width }
+    requires rows { rows.to * width ≤ length pixels.old }
+    ensures area { length pixels.new ≡ length pixels.old }
+    ensures filled { AreFilled (λ i j. has_column columns i && has_column rows j) (λ i j. Some colour) width pixels.old pixels.new }
+{
+    let from = columns.from;
+    match columns.to - from {
+        1 => fill_rows(pixels, width, from, 1, rows, colour),
+        3 => fill_rows(pixels, width, from, 3, rows, colour),
+        5 => fill_rows(pixels, width, from, 5, rows, colour),
+        count => fill_rows(pixels, width, from, count, rows, colour),
+    }
+}
+
+/// Gives the colour to the pixels of so many columns from one on, in some rows of a picture that is so many pixels wide.
+pub fn fill_rows(
+    pixels: &mut [PixelColour],
+    width: u16,
+    from: u16,
+    count: u16,
+    rows: Span,
+    colour: Rgb,
+)
+    requires some { 0 < width }
+    requires columns { from + count ≤ width }
+    requires rows { rows.to * width ≤ length pixels.old }
+    ensures area { length pixels.new ≡ length pixels.old }
+    ensures filled { AreFilled (λ i j. has_column (record { from = from; to = from + count }) i && has_column rows j) (λ i j. Some colour) width pixels.old pixels.new }
+{
+    let stride = usize::from(width);
+    for row in rows.from..rows.to {
+        let start = usize::from(row) * stride;
+        fill_run(&mut pixels[start..start + stride], from, count, colour);
+    }
+}
+
+// Gives the colour to the pixels of so many columns of a row from one on.
+fn fill_run(row: &mut [PixelColour], from: u16, count: u16, colour: Rgb)
+    requires { from + count ≤ length row.old }
+    ensures { (i : ℕ) → colour_of row.new i ≡ (if has_column (record { from = from; to = from + count }) i then Some colour else colour_of row.old i) }
+{
+    let first = usize::from(from);
+    row[first..first + usize::from(count)].fill(PixelColour::new(Some(colour)));
+}
+
+impl Colouring for RowPixels<'_> {
+    ghost fits = { λ p width. p.from + length p.colours.now ≤ width };
+
+    ghost has = { λ p i. is_coloured (pixel_from p.from p.colours.now i) };
+
+    ghost colour = { λ p i. pixel_from p.from p.colours.now i };
+
+    fn fill(&self, row: &mut [PixelColour]) {
+        let first = usize::from(self.from);
+        for (k, colour) in self.colours.iter().enumerate() {
+            put_pixel(row, first + k, *colour);
+        }
+    }
+}
+
+// Gives a colour to the pixel at an index, unless the colour is transparent.
+fn put_pixel(row: &mut [PixelColour], at: usize, colour: Rgb)
+    requires { at < length row.old }
+    ensures wide { length row.new ≡ length row.old }
+    ensures put { colour_of row.new at ≡ (if is_transparent colour then colour_of row.old at else Some colour) }
+    ensures left { (i : ℕ) → i < at → colour_of row.new i ≡ colour_of row.old i }
+    ensures right { (i : ℕ) → at < i → colour_of row.new i ≡ colour_of row.old i }
+{
+    if !is_transparent(colour) {
+        row[at] = PixelColour::new(Some(colour));
+    }
+}

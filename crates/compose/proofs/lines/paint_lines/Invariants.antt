@@ -1,9 +1,0 @@
-use Rattle.std.proofs.Common.{map, take}
-use Rattle.std.specs.List.{flat_map}
-use Rattle.viewport.specs.View.{device_point}
-use Rattle.compose.specs.Paint.{line_shapes}
-use Rattle.compose.specs.Painted.{IsPainted}
-use Rattle.compose.proofs.lines.paint_lines.Given as goal
-
-abbrev pub invariant-loop-style : goal.invariant-loop-style
-invariant-loop-style l = IsPainted l.fn.canvas l.canvas (flat_map (line_shapes (map (map (device_point l.scene.view)) l.fn.parts)) (take l.style-index l.styles))

@@ -1,8 +1,0 @@
-use Rattle.std.proofs.Common.{take}
-use Rattle.std.specs.List.{flat_map}
-use Rattle.compose.specs.Paint.{point_shapes}
-use Rattle.compose.specs.Painted.{IsPainted}
-use Rattle.compose.proofs.points.paint_by_style.Given as goal
-
-abbrev pub invariant-loop-part : goal.invariant-loop-part
-invariant-loop-part l = IsPainted l.fn.canvas l.canvas (flat_map (λ part. flat_map (point_shapes l.scene.view l.scene.map.symbols l.style) part) (take l.part-index l.parts))

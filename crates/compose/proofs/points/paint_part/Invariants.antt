@@ -1,8 +1,0 @@
-use Rattle.std.proofs.Common.{take}
-use Rattle.std.specs.List.{flat_map}
-use Rattle.compose.specs.Paint.{point_shapes}
-use Rattle.compose.specs.Painted.{IsPainted}
-use Rattle.compose.proofs.points.paint_part.Given as goal
-
-abbrev pub invariant-loop-place : goal.invariant-loop-place
-invariant-loop-place l = IsPainted l.fn.canvas l.canvas (flat_map (point_shapes l.scene.view l.scene.map.symbols l.style) (take l.place-index l.part))

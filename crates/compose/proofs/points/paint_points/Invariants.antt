@@ -1,8 +1,0 @@
-use Rattle.std.proofs.Common.{take}
-use Rattle.std.specs.List.{flat_map}
-use Rattle.compose.specs.Paint.{point_shapes}
-use Rattle.compose.specs.Painted.{IsPainted}
-use Rattle.compose.proofs.points.paint_points.Given as goal
-
-abbrev pub invariant-loop-style : goal.invariant-loop-style
-invariant-loop-style l = IsPainted l.fn.canvas l.canvas (flat_map (λ style. flat_map (λ part. flat_map (point_shapes l.scene.view l.scene.map.symbols style) part) l.parts) (take l.style-index l.styles))

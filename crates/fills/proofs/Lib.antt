@@ -1,0 +1,5 @@
+pub mod FlipFilling
+pub mod Flipping
+pub mod RingBlocks
+pub mod Skipping
+pub mod Sweeping

@@ -1,0 +1,5 @@
+pub mod Graining
+pub mod Quieting
+pub mod Stripping
+pub mod StrokeBlocks
+pub mod Stroking

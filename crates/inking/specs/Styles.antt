@@ -1,0 +1,23 @@
+-- What a style paints of lines and of a point (docs/DRAWING.md, "How features are painted").
+use Rattle.std.specs.Prelude.{false, List, [], None, Some, slice_get}
+use Rattle.std.specs.Option.{option_map_or}
+use Rattle.geom.specs.Device.{DevicePoint, pixel_of}
+use Rattle.geom.specs.World.{Place}
+use Rattle.mapdefs.specs.declared.style.StyleFields.{StyleFields}
+use Rattle.mapdefs.specs.declared.symbol.Symbol.{Symbol}
+use Rattle.strokes.specs.Line.{line_of}
+use Rattle.viewport.specs.View.{ViewValue, device_point}
+use Rattle.canvas.specs.Shapes.{PaintedShape, marks, stamps, strokes}
+
+-- what a style paints of lines: the line along them
+abbrev pub line_shapes : List (List DevicePoint) → StyleFields → List PaintedShape
+line_shapes parts style = strokes (line_of parts false style.width) style.colour
+
+-- what a style paints of a point: the pixmap of its symbol round the point's pixel, or without a symbol a square round it
+abbrev pub point_shapes : ViewValue → List Symbol → StyleFields → Place → List PaintedShape
+point_shapes view symbols style place =
+    let pixel = pixel_of (device_point view place) in
+    elim style.symbol [
+      | Some index ↦ option_map_or (stamps pixel) (slice_get symbols index) []
+      | None ↦ marks (record { pixel = pixel; size = style.size }) style.colour
+    ]

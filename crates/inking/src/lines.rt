@@ -1,0 +1,49 @@
+ghost use Rattle.std.specs.Prelude.{◌≡◌, map, OnOk};
+ghost use Rattle.std.specs.List.{flat_map};
+ghost use Rattle.viewport.specs.View.{device_point};
+ghost use Rattle.inking.specs.Styles.{line_shapes};
+ghost use Rattle.canvas.specs.Painted.{IsPainted};
+
+use crate::pen::Pen;
+use crate::stroke::paint_along_parts;
+use canvas::Canvas;
+use mapdefs::{Part, Style};
+use scene::Scene;
+use std::alloc::AllocError;
+
+/// Paints lines along these parts by each style, in order. The canvas has the sides of the scene's picture.
+pub fn paint_lines(
+    canvas: &mut Canvas,
+    scene: &Scene<'_>,
+    parts: &[Part],
+    styles: &[Style],
+) -> Result<(), AllocError>
+    requires width { canvas.old.width ≡ scene.now.view.width }
+    requires height { canvas.old.height ≡ scene.now.view.height }
+    ensures { let points = map (map (device_point scene.now.view)) parts.now in
+        OnOk result (IsPainted canvas.old canvas.new (flat_map (line_shapes points) styles.now)) }
+{
+    for style in styles {
+        paint_by_style(canvas, scene, parts, style)?;
+    }
+    Ok(())
+}
+
+// Paints the line along the parts by one style, where it has a colour.
+fn paint_by_style(
+    canvas: &mut Canvas,
+    scene: &Scene<'_>,
+    parts: &[Part],
+    style: &Style,
+) -> Result<(), AllocError>
+    requires width { canvas.old.width ≡ scene.now.view.width }
+    requires height { canvas.old.height ≡ scene.now.view.height }
+    ensures { OnOk result (IsPainted canvas.old canvas.new (line_shapes (map (map (device_point scene.now.view)) parts.now) style.now)) }
+{
+    let style = style.get();
+    let Some(colour) = style.colour else {
+        return Ok(());
+    };
+    let pen = Pen::new(canvas, scene, style.width, colour);
+    paint_along_parts(canvas, &pen, parts, false)
+}

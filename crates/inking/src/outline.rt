@@ -1,0 +1,34 @@
+ghost use Rattle.std.specs.Prelude.{◌≡◌, true, map, OnOk};
+ghost use Rattle.strokes.specs.Line.{line_of};
+ghost use Rattle.viewport.specs.View.{device_point};
+ghost use Rattle.canvas.specs.Painted.{IsPainted};
+ghost use Rattle.canvas.specs.Shapes.{strokes};
+
+use crate::pen::Pen;
+use crate::stroke::paint_along_parts;
+use canvas::Canvas;
+use mapdefs::{Part, Style};
+use scene::Scene;
+use std::alloc::AllocError;
+
+/// Paints the outline of the rings of a polygon by a style, where it has one: the closed line along each ring, as wide as
+/// the style says, in the colour of the outline. The canvas is as wide and as high as the scene's picture. It takes memory
+/// for the row of each segment that isn't small, and no other. Where memory is refused, some of it may be painted already.
+pub fn paint_outline(
+    canvas: &mut Canvas,
+    scene: &Scene<'_>,
+    rings: &[Part],
+    style: &Style,
+) -> Result<(), AllocError>
+    requires width { canvas.old.width ≡ scene.now.view.width }
+    requires height { canvas.old.height ≡ scene.now.view.height }
+    ensures { OnOk result (IsPainted canvas.old canvas.new
+        (strokes (line_of (map (map (device_point scene.now.view)) rings.now) true style.now.width) style.now.outline)) }
+{
+    let style = style.get();
+    let Some(colour) = style.outline else {
+        return Ok(());
+    };
+    let pen = Pen::new(canvas, scene, style.width, colour);
+    paint_along_parts(canvas, &pen, rings, true)
+}
