@@ -9,7 +9,7 @@ use crate::latitudes::RowLatitudes;
 use crate::margin_window::MarginWindow;
 use geom::{PictureSide, WorldBox};
 use mapdefs::{Items, Picture, PictureFields, PixelColour, Rgb};
-use scanfill::{RowFlips, Span};
+use scanfill::{Flips, Span};
 use scene::Scene;
 use std::alloc::{AllocError, Global};
 use std::marker::Model;
@@ -23,7 +23,7 @@ pub struct Canvas {
     height: PictureSide,
     pixels: Vec<PixelColour>,
     latitudes: RowLatitudes,
-    flips: RowFlips,
+    flips: Flips,
     window: MarginWindow,
 }
 
@@ -58,7 +58,7 @@ impl Canvas {
             height,
             pixels,
             latitudes: RowLatitudes::new(alloc, projection),
-            flips: RowFlips::new(alloc, width, height),
+            flips: Flips::new(alloc, width, height),
             window: MarginWindow::new(projection, 1),
         })
     }
@@ -98,18 +98,18 @@ impl Canvas {
     }
 
     /// An empty list of flips of the canvas's picture. It reuses the memory of the list that was taken back last.
-    pub fn lend_flips(&mut self) -> RowFlips
+    pub fn lend_flips(&mut self) -> Flips
         ensures same { self.new ≡ self.old }
         ensures flips { result ≡ record { width = self.old.width; height = self.old.height; flips = [] } }
     {
-        let none = RowFlips::new(self.alloc(), self.width, self.height);
+        let none = Flips::new(self.alloc(), self.width, self.height);
         let mut flips = mem::replace(&mut self.flips, none);
         flips.restart(self.width, self.height);
         flips
     }
 
     /// Takes a list of flips back. The next list reuses its memory.
-    pub fn return_flips(&mut self, flips: RowFlips)
+    pub fn return_flips(&mut self, flips: Flips)
         ensures { self.new ≡ self.old }
     {
         self.flips = flips;

@@ -13,7 +13,7 @@ use lib.Signed.{◌<ℤ◌, ◌≤ℤ◌}
 use Rattle.geom.specs.PxBox.{PixelBoxValue, Meets, Overlap}
 use Rattle.geom.proofs.Boxes.{meets-across, meets-down}
 use Rattle.collide.specs.declared.marks.Marks.{Marks}
-use Rattle.collide.specs.Marks.{HasMarked, HasPixelOf, IsKept, IsMarked, IsMarkedBy, IsNear, IsWhole, around}
+use Rattle.collide.specs.Marks.{HasMarked, HasPixelOf, IsKept, IsMarked, IsMarkedBy, IsMarkable, IsWhole, around}
 
 -- three ranges of which any two share a position share one
 three : (a b c d e f : ℤ) → Overlap a b c d → Overlap a b e f → Overlap c d e f →
@@ -60,7 +60,7 @@ any-cases P xs y a = ⊎_elim
 
 -- one more box is kept where its pixels are marked
 pub kept-more : (old new : Marks) (all both : Bool) (boxes : List PixelBoxValue) (area : PixelBoxValue) → IsKept old all boxes → IsWhole new → new.columns ≡ old.columns → new.rows ≡ old.rows →
-    IsMarkedBy area old new → (both ≡ true → (all ≡ true) × IsNear old area) → IsKept new both (boxes ++ area ∷ [])
+    IsMarkedBy area old new → (both ≡ true → (all ≡ true) × IsMarkable old area) → IsKept new both (boxes ++ area ∷ [])
 kept-more old new all both boxes area kept whole columns rows marked is = record {
   whole = whole;
   marked = λ i j hi hj.
@@ -78,11 +78,11 @@ kept-more old new all both boxes area kept whole columns rows marked is = record
             (λ (q : Any here boxes). inr (k.1 q))
             (any-cases here boxes area any)),
       );
-  near = λ e. rw (columns, rows) (All-push (IsNear old) boxes area (kept.near (is e).0) (is e).1);
+  near = λ e. rw (columns, rows) (All-push (IsMarkable old) boxes area (kept.near (is e).0) (is e).1);
 }
 
 -- a box that is near hits one of boxes that all are where a pixel of it is marked
-pub near-hits : (marks : Marks) (all : Bool) (boxes : List PixelBoxValue) (area : PixelBoxValue) → IsKept marks all boxes → all ≡ true → IsNear marks area →
+pub near-hits : (marks : Marks) (all : Bool) (boxes : List PixelBoxValue) (area : PixelBoxValue) → IsKept marks all boxes → all ≡ true → IsMarkable marks area →
     HasMarked marks area ↔ Any (Meets area) boxes
 near-hits marks all boxes area kept all_near near = (
   λ h.

@@ -48,11 +48,11 @@ pub record HasMarked (marks : Marks) (area : PixelBoxValue) : Type 0 where
   pub is : IsMarked marks column row
 
 -- a box has a pixel that has a bit, if it has any
-abbrev pub IsNear : Marks → PixelBoxValue → Type 0
-IsNear marks area = Meets area area → Meets area (around marks)
+abbrev pub IsMarkable : Marks → PixelBoxValue → Type 0
+IsMarkable marks area = Meets area area → Meets area (around marks)
 
 -- the marked pixels are those of boxes, and all boxes are near where the flag says so
 pub record IsKept (marks : Marks) (all_near : Bool) (boxes : List PixelBoxValue) : Type 0 where
   pub whole : IsWhole marks
   pub marked : (i j : ℕ) → i < marks.columns → j < marks.rows → IsMarked marks i j ↔ Any (λ area. HasPixelOf area i j) boxes
-  pub near : all_near ≡ true → All (IsNear marks) boxes
+  pub near : all_near ≡ true → All (IsMarkable marks) boxes

@@ -1,7 +1,7 @@
 ghost use Rattle.std.specs.Prelude.{◌≡◌, [], ◌∷◌, ◌++◌, ◌↔◌, IsTrue, IfOk, OnOk, OnErr};
 ghost use Rattle.std.specs.List.{Any};
 ghost use Rattle.geom.specs.PxBox.{Meets};
-ghost use Rattle.collide.specs.Marks.{IsNear, IsWhole};
+ghost use Rattle.collide.specs.Marks.{IsMarkable, IsWhole};
 
 use crate::marks::Marks;
 use geom::{PictureSide, PxBox};
@@ -68,7 +68,7 @@ impl Boxes {
 // Whether a box and all others are near.
 fn are_near(marks: &Marks, others: bool, area: PxBox) -> bool
     requires { IsWhole marks.now }
-    ensures { IsTrue result ↔ (IsTrue others × IsNear marks.now area) }
+    ensures { IsTrue result ↔ (IsTrue others × IsMarkable marks.now area) }
 {
     others && marks.is_near(area)
 }

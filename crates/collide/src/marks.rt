@@ -1,5 +1,5 @@
 ghost use Rattle.std.specs.Prelude.{◌≡◌, ◌≤◌, ◌↔◌, IsTrue, IfOk};
-ghost use Rattle.collide.specs.Marks.{HasMarked, IsBlank, IsMarkedBy, IsNear, IsWhole, around, bit_of};
+ghost use Rattle.collide.specs.Marks.{HasMarked, IsBlank, IsMarkedBy, IsMarkable, IsWhole, around, bit_of};
 
 use crate::bits::{has_any, set_all};
 use geom::{PictureSide, PxBox};
@@ -40,7 +40,7 @@ impl Marks {
     /// Whether a box has a pixel that has a bit, if it has any.
     pub fn is_near(&self, area: PxBox) -> bool
         requires { IsWhole self.now }
-        ensures { IsTrue result ↔ IsNear self.now area }
+        ensures { IsTrue result ↔ IsMarkable self.now area }
     {
         if area.meets(area) {
             return area.meets(self.around());

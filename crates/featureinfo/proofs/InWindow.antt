@@ -18,7 +18,7 @@ use Rattle.scene.specs.Scene.{SceneValue}
 use Rattle.viewport.specs.View.{ViewValue, device_point, window}
 use Rattle.mapdefs.proofs.Containing.{any-weaker}
 use Rattle.vertices.proofs.NearBoxes.{AreRound, box-in}
-use Rattle.featureinfo.specs.Hits.{AreFirstAmong, AreHits, IsHitAt, IsNear}
+use Rattle.featureinfo.specs.Hits.{AreFirstAmong, AreHits, IsHitAt, HasNearPixel}
 use Rattle.featureinfo.specs.Nearby.{nearby_of}
 use Rattle.featureinfo.specs.Reach.{is_within, limit_of}
 use Rattle.featureinfo.specs.declared.nearby.Nearby.{Nearby}
@@ -26,7 +26,7 @@ use Rattle.featureinfo.specs.declared.side.Side.{Side}
 use Rattle.featureinfo.specs.declared.side.Side.TheVariants.{Right, Left, Bottom, Top}
 use Rattle.featureinfo.proofs.Reaching.{all-reach, nested}
 
-module _ (view : ViewValue) (k : Geometry) (tolerance i j : ℕ) (feature : FeatureFields) (near : IsNear view k tolerance i j feature) where
+module _ (view : ViewValue) (k : Geometry) (tolerance i j : ℕ) (feature : FeatureFields) (near : HasNearPixel view k tolerance i j feature) where
   -- some vertex doesn't lie beyond that side
   vertex-on : (side : Side) → Any (λ (q : Place). is_within side (limit_of (nearby_of view.width view.height tolerance i j) side) (device_point view q) ≡ true) (points_of feature)
   vertex-on side =

@@ -28,14 +28,14 @@ covers_plainly view kind.Line parts i j = line.covers_pixel (line_of (points_of 
 covers_plainly view kind.Point parts i j = list_any (λ part. list_any (λ vertex. covers_square (square_at 1 vertex) (pos i) (pos j)) part) (points_of view parts)
 
 -- some pixel of the picture lies within so many columns and so many rows of the queried one, and in the feature's plain cover
-abbrev pub IsNear : ViewValue → Geometry → ℕ → ℕ → ℕ → FeatureFields → Type 0
-IsNear view k tolerance i j feature = SomeNear (nearby_of view.width view.height tolerance i j) (covers_plainly view k feature.parts)
+abbrev pub HasNearPixel : ViewValue → Geometry → ℕ → ℕ → ℕ → FeatureFields → Type 0
+HasNearPixel view k tolerance i j feature = SomeNear (nearby_of view.width view.height tolerance i j) (covers_plainly view k feature.parts)
 
 -- a feature of a layer that shows is hit where it has a class, and lies near the queried pixel
 pub record IsHit (scene : SceneValue) (layer : LayerFields) (i j : ℕ) (feature : FeatureFields) : Type 0 where
   pub shows : is_visible_layer scene.scale layer ≡ true
   pub class : is_some (class_of scene.scale layer feature) ≡ true
-  pub near : IsNear scene.view layer.kind layer.tolerance i j feature
+  pub near : HasNearPixel scene.view layer.kind layer.tolerance i j feature
 
 -- the feature at an index is hit
 abbrev pub IsHitAt : SceneValue → LayerFields → ℕ → ℕ → ℕ → Type 0

@@ -6,7 +6,7 @@ use Rattle.std.proofs.lemmas.Nat.{div_below, mod_below}
 use Rattle.mapdefs.specs.declared.colour.Rgb.{Rgb}
 use Rattle.mapdefs.specs.declared.picture.PictureFields.{PictureFields}
 use Rattle.scanfill.specs.Runs.{has_column, is_in_spans}
-use Rattle.scanfill.specs.RowFlips.{has_pixel, is_pixel_flipped}
+use Rattle.scanfill.specs.Flips.{has_pixel, is_pixel_flipped}
 use Rattle.scanfill.specs.declared.row_spans.RowSpan.{RowSpan}
 use Rattle.scanfill.specs.declared.span.Span.{Span}
 use Rattle.canvas.specs.Shapes.{PaintedShape, covers, colour_in}

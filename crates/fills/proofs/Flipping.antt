@@ -23,7 +23,7 @@ use Rattle.clip.specs.declared.rows.RowRange.{RowRange}
 use Rattle.clip.proofs.Rowed.{first_row-at_most}
 use Rattle.viewport.specs.View.{ViewValue, device_point, height_of}
 use Rattle.viewport.proofs.Rising.{rising-law}
-use Rattle.scanfill.specs.RowFlips.{is_pixel_flipped, flips_by}
+use Rattle.scanfill.specs.Flips.{is_pixel_flipped, flips_by}
 use Rattle.fills.specs.declared.run.Run.{Run}
 use Rattle.canvas.specs.Latitudes.{row_of}
 use Rattle.fills.specs.Flipped.{Adds, AddsEdge, IsRun, StandFor}

@@ -15,7 +15,7 @@ use Rattle.geom.proofs.Quotients.{at_most-by_product, quotient_parts}
 use Rattle.std.specs.Int.{int_div_euclid}
 use Rattle.clip.proofs.Rowed.{first_row-at_most}
 use Rattle.viewport.specs.View.{ViewValue, device_point, sixteenths}
-use Rattle.scanfill.specs.RowFlips.{is_pixel_flipped}
+use Rattle.scanfill.specs.Flips.{is_pixel_flipped}
 use Rattle.fills.specs.declared.run.Run.{Run}
 use Rattle.canvas.specs.Latitudes.{row_of}
 use Rattle.fills.specs.Flipped.{AddsEdge, IsRun, AddsChain, is_left, is_right}

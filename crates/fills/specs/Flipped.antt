@@ -6,7 +6,7 @@ use Rattle.geom.specs.EvenOdd.{edge_between, is_covered}
 use Rattle.geom.specs.Laws.{is_one_of}
 use Rattle.geom.specs.World.{Place, Area}
 use Rattle.clip.specs.EdgeClass.{first_row}
-use Rattle.scanfill.specs.RowFlips.{is_pixel_flipped}
+use Rattle.scanfill.specs.Flips.{is_pixel_flipped}
 use Rattle.viewport.specs.View.{ViewValue, device_point}
 use Rattle.vertices.specs.Chain.{chain_edges}
 use Rattle.canvas.specs.Latitudes.{row_of}

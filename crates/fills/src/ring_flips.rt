@@ -4,7 +4,7 @@ ghost use Rattle.geom.specs.Edge.{crosses_at_or_left};
 ghost use Rattle.geom.specs.EvenOdd.{edge_between, edges, ring_edges};
 ghost use Rattle.geom.specs.Laws.{is_one_of};
 ghost use Rattle.clip.specs.EdgeClass.{first_row};
-ghost use Rattle.scanfill.specs.RowFlips.{is_pixel_flipped};
+ghost use Rattle.scanfill.specs.Flips.{is_pixel_flipped};
 ghost use Rattle.viewport.specs.View.{device_point};
 ghost use Rattle.vertices.specs.Chain.{HasChain, chain_end};
 ghost use Rattle.fills.specs.Flipped.{AddsChain, Adds, AddsEdge, IsCorner, IsRun, StandFor};
@@ -13,16 +13,12 @@ use crate::run::{Corner, RowFinder, Run};
 use clip::RowRange;
 use geom::{Edge, World};
 use mapdefs::{Part, split_block};
-use scanfill::{FlipFault, RowFlips};
+use scanfill::{FlipFault, Flips};
 use vertices::{Block, FEW_VERTICES, last_of};
 
 /// Adds the flips of the edges of the rings to an empty list. An edge that crosses no row of the picture is
 /// skipped.
-pub fn add_rings(
-    flips: &mut RowFlips,
-    rows: &RowFinder<'_>,
-    rings: &[Part],
-) -> Result<(), FlipFault>
+pub fn add_rings(flips: &mut Flips, rows: &RowFinder<'_>, rings: &[Part]) -> Result<(), FlipFault>
     requires none { flips.old.flips ≡ [] }
     requires width { flips.old.width ≡ rows.now.width }
     requires height { flips.old.height ≡ rows.now.height }
@@ -36,7 +32,7 @@ pub fn add_rings(
 }
 
 // Adds the flips of one ring: vertex by vertex if it has few, else block by block.
-fn add_ring(flips: &mut RowFlips, rows: &RowFinder<'_>, ring: &Part) -> Result<(), FlipFault>
+fn add_ring(flips: &mut Flips, rows: &RowFinder<'_>, ring: &Part) -> Result<(), FlipFault>
     requires width { flips.old.width ≡ rows.now.width }
     requires height { flips.old.height ≡ rows.now.height }
     ensures sides { flips.new ≡ record flips.old { flips = flips.new.flips } }
@@ -49,7 +45,7 @@ fn add_ring(flips: &mut RowFlips, rows: &RowFinder<'_>, ring: &Part) -> Result<(
 }
 
 // Adds the flips of a ring, vertex by vertex.
-fn add_small(flips: &mut RowFlips, rows: &RowFinder<'_>, ring: &[World]) -> Result<(), FlipFault>
+fn add_small(flips: &mut Flips, rows: &RowFinder<'_>, ring: &[World]) -> Result<(), FlipFault>
     requires width { flips.old.width ≡ rows.now.width }
     requires height { flips.old.height ≡ rows.now.height }
     ensures sides { flips.new ≡ record flips.old { flips = flips.new.flips } }
@@ -65,7 +61,7 @@ fn add_small(flips: &mut RowFlips, rows: &RowFinder<'_>, ring: &[World]) -> Resu
 
 // Adds the flips of the edges from a vertex over those that follow. Each is projected once.
 fn add_few(
-    flips: &mut RowFlips,
+    flips: &mut Flips,
     rows: &RowFinder<'_>,
     start: &Corner,
     rest: &[World],
@@ -88,7 +84,7 @@ fn add_few(
 }
 
 // Adds the flips of the edge between two vertices. An edge between vertices of one row adds none.
-fn add_edge(flips: &mut RowFlips, from: &Corner, to: &Corner) -> Result<(), FlipFault>
+fn add_edge(flips: &mut Flips, from: &Corner, to: &Corner) -> Result<(), FlipFault>
     requires from { from.now.row ≡ first_row from.now.at.y flips.old.height }
     requires to { to.now.row ≡ first_row to.now.at.y flips.old.height }
     ensures sides { flips.new ≡ record flips.old { flips = flips.new.flips } }
@@ -102,7 +98,7 @@ fn add_edge(flips: &mut RowFlips, from: &Corner, to: &Corner) -> Result<(), Flip
 }
 
 // Adds the flips of a ring, block by block.
-fn add_blocks(flips: &mut RowFlips, rows: &RowFinder<'_>, ring: &Part) -> Result<(), FlipFault>
+fn add_blocks(flips: &mut Flips, rows: &RowFinder<'_>, ring: &Part) -> Result<(), FlipFault>
     requires width { flips.old.width ≡ rows.now.width }
     requires height { flips.old.height ≡ rows.now.height }
     ensures sides { flips.new ≡ record flips.old { flips = flips.new.flips } }
@@ -129,7 +125,7 @@ fn add_blocks(flips: &mut RowFlips, rows: &RowFinder<'_>, ring: &Part) -> Result
 // Adds the flips of a block. It adds none if the block's box lies between the latitudes of the run or right of the
 // picture, those of its chord if the box lies left of the picture, else those of all its edges.
 fn add_block(
-    flips: &mut RowFlips,
+    flips: &mut Flips,
     rows: &RowFinder<'_>,
     mut run: Run,
     block: &Block<'_>,
@@ -159,7 +155,7 @@ fn add_block(
 
 // Adds the flips of the edges over the vertices of a block. An edge between the two latitudes of the run is skipped.
 fn add_vertices(
-    flips: &mut RowFlips,
+    flips: &mut Flips,
     rows: &RowFinder<'_>,
     mut run: Run,
     block: &[World],
@@ -183,7 +179,7 @@ fn add_vertices(
 }
 
 // Goes on to the next vertex. It adds the flips of the edge to it, if that crosses a row.
-fn go_on(flips: &mut RowFlips, rows: &RowFinder<'_>, run: Run, to: World) -> Result<Run, FlipFault>
+fn go_on(flips: &mut Flips, rows: &RowFinder<'_>, run: Run, to: World) -> Result<Run, FlipFault>
     requires width { flips.old.width ≡ rows.now.width }
     requires height { flips.old.height ≡ rows.now.height }
     requires run { IsRun rows.now run }

@@ -5,7 +5,7 @@ use Rattle.geom.specs.Device.{PixelValue}
 use Rattle.geom.specs.PxBox.{PixelBoxValue, IsInside}
 use Rattle.mapdefs.specs.declared.label.LabelFields.{LabelFields}
 use Rattle.labelcache.specs.declared.cache.Placed.{Placed}
-use Rattle.labelcache.specs.Anchors.{IsNear}
+use Rattle.labelcache.specs.Anchors.{IsTooNear}
 use Rattle.labelcache.specs.Candidate.{CandidateValue, IsTriedBefore, priority_of}
 use Rattle.labelcache.specs.LabelBox.{corners, taken_at}
 use Rattle.labelcache.specs.Placement.{PageValue, Setting, IsClear, IsFirst, Stands, HasNone, IsShutOut}
@@ -35,7 +35,7 @@ HasNoFree page labels c pixels = (i : ℕ) (at : PixelValue) → slice_get pixel
 
 -- no candidate of a label so far has the same text and an anchor that is too near
 abbrev pub IsFar : CandidateValue → List CandidateValue → Type 0
-IsFar c others = All (λ other. IsNear c other → ⊥) others
+IsFar c others = All (λ other. IsTooNear c other → ⊥) others
 
 -- a candidate's text may have its corner at a pixel
 pub record Fits (page : PageValue) (old : PlacingValue) (c : CandidateValue) (at : PixelValue) : Type 0 where

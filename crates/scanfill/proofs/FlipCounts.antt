@@ -9,7 +9,7 @@ use Rattle.std.specs.Prelude.{int_le, nat_le, ◌==◌}
 use lib.IntN.{ℤ, pos}
 use Rattle.clip.specs.EdgeClass.{at_least_zero, has_row}
 use Rattle.clip.proofs.Rowed.{cut-at_most}
-use Rattle.scanfill.specs.RowFlips.{IsFlipOf, index_of, flips_by}
+use Rattle.scanfill.specs.Flips.{IsFlipOf, index_of, flips_by}
 
 -- a flip of a row, at a column or left of it
 pub flip-test : (i j row column : ℕ) → i < 2048 → column < 2048 → flips_by i j (index_of row column) ≡ (j == row && nat_le column i)

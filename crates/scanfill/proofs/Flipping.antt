@@ -10,7 +10,7 @@ use Rattle.std.proofs.Math.Seq.{take-set-lt}
 use Rattle.geom.specs.EvenOdd.{is_odd}
 use Rattle.clip.specs.EdgeClass.{at_least_zero}
 use Rattle.clip.proofs.Rowed.{cut-at_most}
-use Rattle.scanfill.specs.Flips.{AreFlippedFrom, AreWithin, flip_if, is_flipped}
+use Rattle.scanfill.specs.RowFlips.{AreFlippedFrom, AreWithin, flip_if, is_flipped}
 use Rattle.scanfill.specs.Reading.{AllAre}
 
 -- columns that don't flip add nothing to the count

@@ -6,7 +6,7 @@ use Rattle.std.proofs.lemmas.Nat.{div-add-mod', mod_below}
 use Rattle.std.specs.List.{count_by}
 use Rattle.std.specs.Prelude.{nat_le, nat_lt, ◌==◌}
 use Rattle.geom.specs.EvenOdd.{is_odd}
-use Rattle.scanfill.specs.RowFlips.{AreRising, AreFlipsOf, IsFlipOf, has_pixel, index_of, is_pixel_flipped, flips_by}
+use Rattle.scanfill.specs.Flips.{AreRising, AreFlipsOf, IsFlipOf, has_pixel, index_of, is_pixel_flipped, flips_by}
 use Rattle.scanfill.proofs.Counting.{count-none}
 use Rattle.scanfill.proofs.FlipCounts.{flip-test}
 

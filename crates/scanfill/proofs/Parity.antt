@@ -3,7 +3,7 @@ use Rattle.std.proofs.Common.{◌≡◌, ◌∙◌, ℕ, ◌+◌, ◌<◌, Bool,
 use Rattle.std.proofs.lemmas.List.Sums.{count_by_more_yes, count_by_more_no}
 use Rattle.std.specs.List.{count_by}
 use Rattle.geom.specs.EvenOdd.{is_odd}
-use Rattle.scanfill.specs.Flips.{flip_if}
+use Rattle.scanfill.specs.RowFlips.{flip_if}
 use Rattle.scanfill.proofs.Flipping.{odd-next}
 
 pub parity-more : {X : Type 0} (p : X → Bool) (xs : List X) (k : ℕ) (x : X) → k < length xs → x ≡ get_or xs k x →

@@ -14,7 +14,7 @@ use Rattle.clip.specs.EdgeClass.{AreRowsOf, crosses_row, has_row}
 use Rattle.clip.specs.declared.rows.RowRange.{RowRange}
 use Rattle.scanfill.specs.Crossing.{reaches}
 use Rattle.scanfill.specs.declared.crossing.Crossing.{Crossing}
-use Rattle.scanfill.specs.Flips.{flip_if, is_flipped}
+use Rattle.scanfill.specs.RowFlips.{flip_if, is_flipped}
 use Rattle.scanfill.specs.Runs.{AreRunsFrom}
 use Rattle.scanfill.specs.Sweep.{ReachesAll}
 use Rattle.scanfill.specs.declared.span.Span.{Span}

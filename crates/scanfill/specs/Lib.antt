@@ -1,9 +1,9 @@
 pub mod Column
 pub mod Crossing
-pub mod Flips
+pub mod RowFlips
 pub mod Law
 pub mod Reading
 pub mod Runs
 pub mod Sweep
-pub mod RowFlips
+pub mod Flips
 pub mod Walk

@@ -1,46 +1,25 @@
--- The pixels at which the rows of a picture go in or out, in one list for all rows (docs/DRAWING.md, "When a pixel belongs to a polygon").
-use Rattle.std.specs.Prelude.{ℕ, ◌+◌, ◌*◌, ◌/◌, ◌%◌, ◌≤◌, ◌<◌, Bool, ◌&&◌, ◌==◌, nat_le, nat_lt, List, All, length, slice_index_or, count_by}
+-- The columns of a row at which its pixels go in or out (docs/DRAWING.md, "When a pixel belongs to a polygon").
+use Rattle.std.specs.Prelude.{◌≡◌, ℕ, ◌+◌, ◌≤◌, ◌<◌, Bool, false, not, if◌then◌else◌, ℤ, pos, int_le, List, length, take, slice_index_or, count_by}
 use Rattle.geom.specs.EvenOdd.{is_odd}
-use Rattle.scanfill.specs.declared.row_spans.RowSpan.{RowSpan}
+use Rattle.geom.specs.declared.side.TheConstants.{MAX_PICTURE_SIDE}
 
--- the index of a pixel by its row and its column, where each row has 2,048
-abbrev pub index_of : ℕ → ℕ → ℕ
-index_of j i = j * 2048 + i
+-- an odd number of the columns up to the pixel's own flips
+abbrev pub is_flipped : List Bool → ℕ → Bool
+is_flipped flips i = is_odd (count_by (λ flip. flip) (take (i + 1) flips))
 
--- the index is that of a pixel of row j, in column i or left of it
-abbrev pub flips_by : ℕ → ℕ → ℕ → Bool
-flips_by i j index = nat_le (index_of j 0) index && nat_le index (index_of j i)
+-- an answer, or the other one where the condition holds
+abbrev pub flip_if : Bool → Bool → Bool
+flip_if b answer = if b then not answer else answer
 
--- an odd number of flips of row j are in column i or left of it
-abbrev pub is_pixel_flipped : List ℕ → ℕ → ℕ → Bool
-is_pixel_flipped flips i j = is_odd (count_by (flips_by i j) flips)
+-- the pixels from a column on are flipped, and no others
+pub record AreFlippedFrom (column : ℤ) (old new : List Bool) : Type 0 where
+  pub width : length new ≡ length old
+  pub all : (i : ℕ) → i < length old → is_flipped new i ≡ flip_if (int_le column (pos i)) (is_flipped old i)
 
--- flips, and the sides of the picture that they are flips of
-pub record RowFlipsValue : Type 0 where
-  pub width : ℕ
-  pub height : ℕ
-  pub flips : List ℕ
-
--- a flip is at a pixel of the picture
-pub record IsFlipOf (width height flip : ℕ) : Type 0 where
-  pub above : flip / 2048 < height
-  pub left : flip % 2048 < width
-
--- each flip is at most those that follow it
-abbrev pub AreRising : List ℕ → Type 0
-AreRising flips = (k l : ℕ) (d : ℕ) → k ≤ l → l < length flips → slice_index_or flips k d ≤ slice_index_or flips l d
-
--- the span holds the pixel in a column and a row
-abbrev pub has_pixel : RowSpan → ℕ → ℕ → Bool
-has_pixel span i j = j == span.row && (nat_le span.from i && nat_lt i span.to)
-
--- the span lies in a picture of w columns and h rows
-pub record IsSpanOf (w h : ℕ) (span : RowSpan) : Type 0 where
-  pub row : span.row < h
-  pub some : span.from ≤ span.to
-  pub within : span.to ≤ w
-
--- the flips are at pixels of the picture, and rise
-pub record AreFlipsOf (w h : ℕ) (flips : List ℕ) : Type 0 where
-  pub each : All (IsFlipOf w h) flips
-  pub rising : AreRising flips
+-- no column flips outside of those from one to before another
+pub record AreWithin (flips : List Bool) (first past : ℕ) : Type 0 where
+  pub width : length flips ≤ MAX_PICTURE_SIDE
+  pub start : first ≤ length flips
+  pub bound : past ≤ length flips
+  pub before : (i : ℕ) → i < first → slice_index_or flips i false ≡ false
+  pub after : (i : ℕ) → past ≤ i → slice_index_or flips i false ≡ false

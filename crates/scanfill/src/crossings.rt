@@ -2,11 +2,11 @@ ghost use Rattle.std.specs.Prelude.{◌≡◌, ℕ, ◌<◌, ◌≤◌, ◌+◌,
 ghost use Rattle.std.specs.List.Sorted.{IsPermutation};
 ghost use Rattle.geom.specs.EvenOdd.{is_odd};
 ghost use Rattle.scanfill.specs.Crossing.{AreOrdered, HaveGoneOn, end_of, reaches, row_of};
-ghost use Rattle.scanfill.specs.Flips.{flip_if, is_flipped};
+ghost use Rattle.scanfill.specs.RowFlips.{flip_if, is_flipped};
 ghost use Rattle.scanfill.specs.declared.crossing.Crossing.{Crossing};
 
 use crate::crossing::Crossing;
-use crate::flips::Flips;
+use crate::row_flips::RowFlips;
 
 /// The crossings of a sweep, and the row that it has come to. Their list has those that have ended
 /// first, then those that cross the row, then those that wait, in the order of their first rows.
@@ -45,7 +45,7 @@ impl Crossings {
     }
 
     /// Flips the pixels of the row from each crossing on.
-    pub fn flip_all(&self, flips: &mut Flips)
+    pub fn flip_all(&self, flips: &mut RowFlips)
         ensures width { length flips.new ≡ length flips.old }
         ensures all { (i : ℕ) → i < length flips.old →
             is_flipped flips.new i ≡ flip_if (is_odd (count_by (reaches i self.now.row) self.now.list.items)) (is_flipped flips.old i) }

@@ -6,7 +6,7 @@
 //! crosses at it or left of it (`IsColumn`), in each row that the walk comes to. What `Cover::row` and
 //! `Sweep::next` leave are the longest runs of covered pixels, rising (`AreRunsFrom`). By `laws::spans` a
 //! pixel lies in one of them exactly where it is covered, and by `laws::one_list_of_runs` a row has one such
-//! list. Outside of the rows that `Cover::rows` gives no pixel of the picture is covered. `RowFlips::add`
+//! list. Outside of the rows that `Cover::rows` gives no pixel of the picture is covered. `Flips::add`
 //! adds to the flips of each pixel's row, in its column or left of it, what an edge adds to the crossings
 //! that the even-odd rule counts (`counts`). The spans that `RowSpans::next` gives of them have the pixels
 //! inside and no other (`flipped`).
@@ -36,9 +36,9 @@ mod work;
 pub use box_shape::{BoxShape, row_of_box};
 pub use clip::RowRange;
 pub use cover::Cover;
+pub use flips::{FlipFault, Flips, MAX_FLIPS};
 pub use polygon::Polygon;
 pub use reading::Reading;
-pub use row_flips::{FlipFault, MAX_FLIPS, RowFlips};
 pub use row_spans::{RowSpan, RowSpans};
 pub use span::{Span, Spans};
 pub use sweep::Sweep;

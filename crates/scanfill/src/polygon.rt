@@ -4,12 +4,12 @@ ghost use Rattle.geom.specs.Device.{pixel_centre};
 ghost use Rattle.geom.specs.Edge.{crosses_at_or_left};
 ghost use Rattle.geom.specs.EvenOdd.{edges, is_covered, ring_edges};
 ghost use Rattle.geom.specs.declared.side.TheConstants.{MAX_PICTURE_SIDE};
-ghost use Rattle.scanfill.specs.Flips.{flip_if, is_flipped};
+ghost use Rattle.scanfill.specs.RowFlips.{flip_if, is_flipped};
 ghost use Rattle.scanfill.specs.Runs.{AreRunsFrom};
 ghost use Rattle.scanfill.specs.Sweep.{walk_count};
 
 use crate::cover::Cover;
-use crate::flips::Flips;
+use crate::row_flips::RowFlips;
 use crate::span::Spans;
 use crate::sweep::Sweep;
 use crate::walk::EdgeWalk;
@@ -125,7 +125,7 @@ fn read_row(
     requires empty { out.old ≡ [] }
     ensures { OnOk result (AreRunsFrom (λ i. is_covered edges.now.items (pixel_centre (pos i) (pos j))) 0 width out.new) }
 {
-    let mut flips = Flips::new(*edges.allocator(), width)?;
+    let mut flips = RowFlips::new(*edges.allocator(), width)?;
     for edge in edges {
         flip_edge(&mut flips, *edge, j, width);
     }
@@ -133,7 +133,7 @@ fn read_row(
 }
 
 // Flips the pixels of a row from where the edge crosses it.
-fn flip_edge(flips: &mut Flips, edge: Edge, j: u16, width: PictureSide)
+fn flip_edge(flips: &mut RowFlips, edge: Edge, j: u16, width: PictureSide)
     requires row { j < MAX_PICTURE_SIDE }
     requires width { length flips.old ≡ width }
     ensures width { length flips.new ≡ width }

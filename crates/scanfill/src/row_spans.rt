@@ -1,5 +1,5 @@
 ghost use Rattle.std.specs.Prelude.{◌≡◌, ℕ, ◌≤◌, ◌<◌, ◌/◌, ◌%◌, false, ◌||◌, ◌∷◌, [], All, length, IfSome, IfNone};
-ghost use Rattle.scanfill.specs.RowFlips.{AreRising, IsSpanOf, IsFlipOf, has_pixel, is_pixel_flipped};
+ghost use Rattle.scanfill.specs.Flips.{AreRising, IsSpanOf, IsFlipOf, has_pixel, is_pixel_flipped};
 
 use geom::PictureSide;
 use std::marker::Model;
@@ -24,9 +24,9 @@ pub struct RowSpans<'a> {
 }
 
 impl<'a> Model for RowSpans<'a> {
-    ghost use Rattle.scanfill.specs.RowFlips.{AreFlipsOf, RowFlipsValue};
+    ghost use Rattle.scanfill.specs.Flips.{AreFlipsOf, FlipsValue};
 
-    ghost Value = { RowFlipsValue };
+    ghost Value = { FlipsValue };
 
     ghost view = { λ s. record { width = s.width; height = s.height; flips = s.indices.now } };
 
@@ -34,7 +34,7 @@ impl<'a> Model for RowSpans<'a> {
 }
 
 impl<'a> RowSpans<'a> {
-    ghost use Rattle.scanfill.specs.RowFlips.{AreFlipsOf};
+    ghost use Rattle.scanfill.specs.Flips.{AreFlipsOf};
 
     /// The spans between flips, of a picture of that width and height.
     pub(crate) fn new(indices: &'a [u32], width: PictureSide, height: PictureSide) -> Self

@@ -9,7 +9,7 @@ ghost use Rattle.scanfill.specs.Sweep.{AreEmptyRows, covers_next, is_walk, walk_
 
 use crate::crossing::Crossing;
 use crate::crossings::Crossings;
-use crate::flips::Flips;
+use crate::row_flips::RowFlips;
 use crate::span::Spans;
 use crate::walk::EdgeWalk;
 use crate::work::Work;
@@ -25,7 +25,7 @@ pub struct Sweep<'a> {
     width: PictureSide,
     height: u16,
     crossings: Crossings,
-    flips: Flips,
+    flips: RowFlips,
 }
 
 impl<'a> Model for Sweep<'a> {
@@ -62,7 +62,7 @@ impl<'a> Sweep<'a> {
             width,
             height: rows,
             crossings: Crossings::new(crossings),
-            flips: Flips::new(alloc, width)?,
+            flips: RowFlips::new(alloc, width)?,
         };
         Ok((sweep, work))
     }

@@ -1,5 +1,5 @@
 ghost use Rattle.std.specs.Prelude.{◌≡◌, ◌<◌, ◌≤◌, false, [], length, replicate, IfOk, OnOk};
-ghost use Rattle.scanfill.specs.Flips.{AreWithin};
+ghost use Rattle.scanfill.specs.RowFlips.{AreWithin};
 ghost use Rattle.scanfill.specs.Runs.{AreRunsFrom};
 ghost use Rattle.strokes.specs.Columns.{AreMarked, is_marked};
 
@@ -18,7 +18,7 @@ pub struct Marks {
 
 impl Model for Marks {
     ghost use Rattle.std.specs.Prelude.{List, Bool};
-    ghost use Rattle.scanfill.specs.Flips.{AreWithin};
+    ghost use Rattle.scanfill.specs.RowFlips.{AreWithin};
 
     ghost Value = { List Bool };
 

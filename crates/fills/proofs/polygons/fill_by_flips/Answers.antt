@@ -1,6 +1,6 @@
 use Rattle.std.proofs.Common.{Some, ◌≡◌, ◌∙◌, ℕ, map, refl, sym, arith}
 use Rattle.viewport.specs.View.{device_point}
-use Rattle.scanfill.specs.RowFlips.{is_pixel_flipped}
+use Rattle.scanfill.specs.Flips.{is_pixel_flipped}
 use Rattle.canvas.specs.Shapes.{Fill}
 use Rattle.fills.proofs.FlipFilling.{painted-within}
 use Rattle.fills.proofs.polygons.fill_by_flips.Goals as goal

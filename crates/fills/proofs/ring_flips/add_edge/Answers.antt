@@ -6,7 +6,7 @@ use Rattle.geom.specs.Edge.{crosses_at_or_left}
 use Rattle.geom.specs.EvenOdd.{edge_between}
 use Rattle.geom.specs.Laws.{is_one_of}
 use Rattle.clip.specs.EdgeClass.{first_row}
-use Rattle.scanfill.specs.RowFlips.{is_pixel_flipped}
+use Rattle.scanfill.specs.Flips.{is_pixel_flipped}
 use Rattle.fills.proofs.Flipping.{added, between, one-false, row-missed, rows-crossed}
 use Rattle.fills.proofs.ring_flips.add_edge.Goals as goal
 

@@ -2,7 +2,7 @@ use Rattle.std.proofs.Common.{◌≡◌, ◌∙◌, ◌+◌, List, [], drop, map
 use Rattle.std.proofs.Math.ListN.{drop_of_length-le}
 use Rattle.geom.specs.World.{Place}
 use Rattle.clip.specs.EdgeClass.{first_row}
-use Rattle.scanfill.specs.RowFlips.{RowFlipsValue}
+use Rattle.scanfill.specs.Flips.{FlipsValue}
 use Rattle.viewport.specs.View.{ViewValue, device_point}
 use Rattle.vertices.specs.Chain.{chain_edges, chain_end}
 use Rattle.fills.specs.Flipped.{AddsEdge}
@@ -21,12 +21,12 @@ loop-to-init c = record {
 
 pub add_edge-requires-clause-from : goal.add_edge-requires-clause-from
 add_edge-requires-clause-from c =
-    let height : c.loop-to.flips.height ≡ c.args.rows.now.height = ap (λ (f : RowFlipsValue). f.height) c.loop-to.invariant.sides ∙ c.requires.height in
+    let height : c.loop-to.flips.height ≡ c.args.rows.now.height = ap (λ (f : FlipsValue). f.height) c.loop-to.invariant.sides ∙ c.requires.height in
     c.loop-to.invariant.corner.row ∙ ap (first_row c.loop-to.corner.at.y) (sym height)
 
 pub add_edge-requires-clause-to : goal.add_edge-requires-clause-to
 add_edge-requires-clause-to c =
-    let height : c.loop-to.flips.height ≡ c.args.rows.now.height = ap (λ (f : RowFlipsValue). f.height) c.loop-to.invariant.sides ∙ c.requires.height in
+    let height : c.loop-to.flips.height ≡ c.args.rows.now.height = ap (λ (f : FlipsValue). f.height) c.loop-to.invariant.sides ∙ c.requires.height in
     c.corner-next.ensures.corner.row ∙ ap (first_row c.corner-next.result.at.y) (sym height)
 
 pub loop-to-preserved : goal.loop-to-preserved
@@ -36,8 +36,8 @@ loop-to-preserved c =
     let to : Place = c.to-item.result in
     let next = rest-next c.args.rest.now l.to-index to c.loop-to-test.true c.to-item.is in
     let here : c.corner-next.result.at ≡ device_point view to = c.corner-next.ensures.corner.at ∙ ap (device_point view) c.corner-next.ensures.from in
-    let width : l.flips.width ≡ view.width = ap (λ (f : RowFlipsValue). f.width) l.invariant.sides ∙ c.requires.width in
-    let height : l.flips.height ≡ view.height = ap (λ (f : RowFlipsValue). f.height) l.invariant.sides ∙ c.requires.height in
+    let width : l.flips.width ≡ view.width = ap (λ (f : FlipsValue). f.width) l.invariant.sides ∙ c.requires.width in
+    let height : l.flips.height ≡ view.height = ap (λ (f : FlipsValue). f.height) l.invariant.sides ∙ c.requires.height in
     let adds : AddsEdge view l.flips.flips l.corner.from to c.add_edge.new.flips.flips = λ i j column below.
     rw (l.invariant.corner.at, here) at (c.in_ok-add_edge.ensures.edge i j (omega (arith, column, width)) (omega (arith, below, height))) in
     let whole = chain_edges (device_point view c.args.start.now.from) (map (device_point view) c.args.rest.now) in

@@ -6,7 +6,7 @@ use Rattle.std.specs.List.{count_by}
 use Rattle.geom.specs.Device.{pixel_centre}
 use Rattle.geom.specs.Edge.{crosses_at_or_left}
 use Rattle.geom.specs.EvenOdd.{is_covered, is_odd}
-use Rattle.scanfill.specs.Flips.{is_flipped, flip_if}
+use Rattle.scanfill.specs.RowFlips.{is_flipped, flip_if}
 use Rattle.scanfill.proofs.Parity.{parity-more}
 use Rattle.scanfill.proofs.Readings.{runs-same}
 use Rattle.scanfill.proofs.polygon.read_row.Goals as goal

@@ -4,7 +4,7 @@ use Rattle.std.specs.List.{count_by}
 use Rattle.geom.specs.Device.{pixel_centre}
 use Rattle.geom.specs.Edge.{crosses_at_or_left}
 use Rattle.geom.specs.EvenOdd.{is_odd}
-use Rattle.scanfill.specs.Flips.{is_flipped}
+use Rattle.scanfill.specs.RowFlips.{is_flipped}
 use Rattle.scanfill.proofs.polygon.read_row.Given as goal
 
 abbrev pub invariant-loop-edge : goal.invariant-loop-edge

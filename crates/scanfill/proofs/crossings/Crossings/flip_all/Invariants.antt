@@ -2,7 +2,7 @@ use Rattle.std.proofs.Common.{◌≡◌, ℕ, ◌<◌, length, take}
 use Rattle.std.specs.List.{count_by}
 use Rattle.geom.specs.EvenOdd.{is_odd}
 use Rattle.scanfill.specs.Crossing.{reaches}
-use Rattle.scanfill.specs.Flips.{flip_if, is_flipped}
+use Rattle.scanfill.specs.RowFlips.{flip_if, is_flipped}
 use Rattle.scanfill.proofs.crossings.Crossings.flip_all.Given as goal
 
 abbrev pub invariant-loop-at : goal.invariant-loop-at

@@ -1,5 +1,5 @@
 use Rattle.std.proofs.Common.{◌≡◌, ◌∙◌, ℕ, ◌+◌, ◌/◌, ◌%◌, ◌<◌, ◌≤◌, List, ◌∷◌, length, get_or, sym, ap, arith}
-use Rattle.scanfill.specs.RowFlips.{AreRising, AreFlipsOf, IsFlipOf, RowFlipsValue, index_of}
+use Rattle.scanfill.specs.Flips.{AreRising, AreFlipsOf, IsFlipOf, FlipsValue, index_of}
 use Rattle.scanfill.proofs.Pairing.{column-below, index-parts, rising-first, rising-rest, rows-later, span-one, span-two, flip-first, flips-rest}
 use Rattle.scanfill.proofs.row_spans.RowSpans.next.Goals as goal
 use Rattle.scanfill.proofs.row_spans.RowSpans.next.Goals.{in-Some+else-row_of-row, in_default}
@@ -68,7 +68,7 @@ returns-then-row_of-row-clause-flipped c = λ i j h.
     let one = first-of s.width s.height a s.indices.now c.in_ok-first.rest.now c.in_ok-first.ensures.cases.0 c.self.invariant in
     let le = least-of s.width s.height a b s.indices.now c.in_ok-first.rest.now c.in-Some.others.now c.in_ok-first.ensures.cases.0 c.in-Some.ensures.cases.0 c.self.invariant in
     let flips : s.indices.now ≡ a ∷ b ∷ c.in-Some.others.now = c.in_ok-first.ensures.cases.0 ∙ ap (λ (xs : List ℕ). a ∷ xs) c.in-Some.ensures.cases.0 in
-    let wide = ap (λ (t : RowFlipsValue). t.width) c.self.view_is in
+    let wide = ap (λ (t : FlipsValue). t.width) c.self.view_is in
     let first : a ≡ index_of c.row_of-row.result c.column_of-from.result = rw (c.row_of-row.ensures, c.column_of-from.ensures) (index-parts a) in
     let second : b ≡ index_of c.row_of-row.result c.column_of-to.result = rw (← c.if-row_of-row.true) (rw (c.row_of.ensures, c.column_of-to.ensures) (index-parts b)) in
     rw (← c.self.view_is, flips)
@@ -83,7 +83,7 @@ returns-clause-flipped c = λ i j h.
     let s = c.self.inside in
     let a = c.in_ok-first.first.now in
     let rest = c.in_ok-first.rest.now in
-    let wide = ap (λ (t : RowFlipsValue). t.width) c.self.view_is in
+    let wide = ap (λ (t : FlipsValue). t.width) c.self.view_is in
     let first : a ≡ index_of c.row_of-row.result c.column_of-from.result = rw (c.row_of-row.ensures, c.column_of-from.ensures) (index-parts a) in
     let rising = rw c.in_ok-first.ensures.cases.0 at c.self.invariant.rising in
     let later : (n d : ℕ) → n < length rest → index_of (c.row_of-row.result + 1) 0 ≤ get_or rest n d = elim c.match-split_first.branch [

@@ -2,7 +2,7 @@ use Rattle.std.proofs.Common.{◌≡◌, ◌^◌, ap, arith}
 use Rattle.scanfill.specs.Column.{column_of}
 use Rattle.scanfill.proofs.Columns.{column-below}
 use Rattle.scanfill.proofs.Words.{word}
-use Rattle.scanfill.proofs.row_flips.column.Goals as goal
+use Rattle.scanfill.proofs.flips.column.Goals as goal
 
 pub returns-clause-range : goal.returns-clause-range
 returns-clause-range c =

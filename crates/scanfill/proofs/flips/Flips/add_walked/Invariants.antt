@@ -4,8 +4,8 @@ use Rattle.std.specs.Prelude.{int_le}
 use lib.IntN.{pos}
 use Rattle.clip.specs.EdgeClass.{has_row}
 use Rattle.scanfill.specs.Column.{column_of}
-use Rattle.scanfill.specs.RowFlips.{flips_by}
-use Rattle.scanfill.proofs.row_flips.RowFlips.add_walked.Given as goal
+use Rattle.scanfill.specs.Flips.{flips_by}
+use Rattle.scanfill.proofs.flips.Flips.add_walked.Given as goal
 
 -- the rows before this one have their flips, and the walk has come to this one
 abbrev pub invariant-loop-row : goal.invariant-loop-row

@@ -1,5 +1,5 @@
 use Rattle.scanfill.proofs.Flipping.{cleared}
-use Rattle.scanfill.proofs.flips.clear_flips.Goals as goal
+use Rattle.scanfill.proofs.row_flips.clear_flips.Goals as goal
 
 pub returns : goal.returns
 returns c =

@@ -3,7 +3,7 @@ use Rattle.std.proofs.lemmas.Int.{ints}
 use mir.Syntax.{w128}
 use mir.Val.{to_z, of_z}
 use Rattle.scanfill.proofs.Flipping.{flipped-from, flipped-past}
-use Rattle.scanfill.proofs.flips.Flips.flip.Goals as goal
+use Rattle.scanfill.proofs.row_flips.RowFlips.flip.Goals as goal
 
 pub returns-then-at-width : goal.returns-then-at-width
 returns-then-at-width c =

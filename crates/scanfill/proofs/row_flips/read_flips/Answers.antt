@@ -1,8 +1,8 @@
 use Rattle.std.proofs.Common.{length, arith}
 use Rattle.std.proofs.lemmas.Result.{on_ok_weaker}
-use Rattle.scanfill.specs.Flips.{is_flipped}
+use Rattle.scanfill.specs.RowFlips.{is_flipped}
 use Rattle.scanfill.proofs.Flipping.{quiet-start, quiet-end}
-use Rattle.scanfill.proofs.flips.read_flips.Goals as goal
+use Rattle.scanfill.proofs.row_flips.read_flips.Goals as goal
 
 pub loop-column-init : goal.loop-column-init
 loop-column-init c =

@@ -1,9 +1,9 @@
 use Rattle.std.proofs.Common.{◌≡◌, ◌≤◌, length, take}
 use Rattle.std.specs.List.{count_by}
 use Rattle.geom.specs.EvenOdd.{is_odd}
-use Rattle.scanfill.specs.Flips.{is_flipped}
+use Rattle.scanfill.specs.RowFlips.{is_flipped}
 use Rattle.scanfill.specs.Reading.{AllAre, IsReading}
-use Rattle.scanfill.proofs.flips.read_flips.Given as goal
+use Rattle.scanfill.proofs.row_flips.read_flips.Given as goal
 
 abbrev pub invariant-loop-column : goal.invariant-loop-column
 invariant-loop-column l = record {

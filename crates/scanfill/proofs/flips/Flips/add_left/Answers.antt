@@ -5,14 +5,14 @@ use Rattle.std.specs.Prelude.{int_le}
 use lib.IntN.{pos}
 use Rattle.geom.proofs.Products.{is_le}
 use Rattle.clip.specs.EdgeClass.{has_row}
-use Rattle.scanfill.specs.RowFlips.{RowFlipsValue, flips_by}
+use Rattle.scanfill.specs.Flips.{FlipsValue, flips_by}
 use Rattle.scanfill.proofs.FlipCounts.{left-more}
-use Rattle.scanfill.proofs.row_flips.RowFlips.add_left.Goals as goal
+use Rattle.scanfill.proofs.flips.Flips.add_left.Goals as goal
 
 pub loop-row-preserved : goal.loop-row-preserved
 loop-row-preserved c =
     let l = c.loop-row in
-    let wide : l.self.width ≡ c.args.self.now.width = ap (λ (t : RowFlipsValue). t.width) l.invariant.sides in
+    let wide : l.self.width ≡ c.args.self.now.width = ap (λ (t : FlipsValue). t.width) l.invariant.sides in
     record {
       sides = search (rules, c.in_ok-add_flip.ensures.sides, l.invariant.sides);
       counts = λ i j h.

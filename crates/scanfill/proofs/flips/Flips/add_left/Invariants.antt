@@ -1,8 +1,8 @@
 use Rattle.std.proofs.Common.{◌≡◌, ℕ, ◌+◌, ◌<◌, cond}
 use Rattle.std.specs.List.{count_by}
 use Rattle.clip.specs.EdgeClass.{has_row}
-use Rattle.scanfill.specs.RowFlips.{flips_by}
-use Rattle.scanfill.proofs.row_flips.RowFlips.add_left.Given as goal
+use Rattle.scanfill.specs.Flips.{flips_by}
+use Rattle.scanfill.proofs.flips.Flips.add_left.Given as goal
 
 -- the rows before this one have their flips
 abbrev pub invariant-loop-row : goal.invariant-loop-row

@@ -1,31 +1,31 @@
 use Rattle.std.proofs.Common.{◌∙◌, ◌+◌, ℕ, Bool, cond, ap, sym, arith}
 use Rattle.std.proofs.lemmas.Result.{on_ok_weaker}
 use Rattle.std.specs.List.{count_by}
-use Rattle.scanfill.specs.RowFlips.{RowFlipsValue, flips_by}
+use Rattle.scanfill.specs.Flips.{FlipsValue, flips_by}
 use Rattle.scanfill.proofs.Shares.{drop-share, left-share, walk-share}
 use Rattle.scanfill.proofs.Sweeping.{rows-within}
-use Rattle.scanfill.proofs.row_flips.RowFlips.add.Goals as goal
+use Rattle.scanfill.proofs.flips.Flips.add.Goals as goal
 
 pub add_left-requires-clause-within : goal.add_left-requires-clause-within
 add_left-requires-clause-within c =
-    let high = ap (λ (t : RowFlipsValue). t.height) c.self.view_is in
+    let high = ap (λ (t : FlipsValue). t.height) c.self.view_is in
     omega (arith, high, rows-within c.args.edge c.self.inside.height c.in-LeftOfView.rows c.in-LeftOfView.ensures.cases.0)
 
 pub add_walked-requires-clause-within : goal.add_walked-requires-clause-within
 add_walked-requires-clause-within c =
-    let high = ap (λ (t : RowFlipsValue). t.height) c.self.view_is in
+    let high = ap (λ (t : FlipsValue). t.height) c.self.view_is in
     omega (arith, high, rows-within c.args.edge c.self.inside.height c.in-Walk.rows c.in-Walk.ensures.cases.0)
 
 pub returns-in-Drop-clause-counts : goal.returns-in-Drop-clause-counts
 returns-in-Drop-clause-counts c = λ i j column row.
-    let wide = ap (λ (t : RowFlipsValue). t.width) c.self.view_is in
-    let high = ap (λ (t : RowFlipsValue). t.height) c.self.view_is in
+    let wide = ap (λ (t : FlipsValue). t.width) c.self.view_is in
+    let high = ap (λ (t : FlipsValue). t.height) c.self.view_is in
     rw (drop-share c.args.edge c.self.inside.width c.self.inside.height i j c.in-Drop.ensures.cases (omega (arith, wide)) (omega (arith, high))) (omega arith)
 
 pub returns-in-LeftOfView-clause-counts : goal.returns-in-LeftOfView-clause-counts
 returns-in-LeftOfView-clause-counts c = on_ok_weaker c.add_left.result
     (λ counts. λ i j column row.
-    let high = ap (λ (t : RowFlipsValue). t.height) c.self.view_is in
+    let high = ap (λ (t : FlipsValue). t.height) c.self.view_is in
     let is = c.in-LeftOfView.ensures.cases in
     counts i j column
     ∙ ap (λ (b : Bool). count_by (flips_by i j) c.args.self.now.flips + cond {A = ℕ} b 1 0) (sym (left-share c.args.edge c.self.inside.height i j c.in-LeftOfView.rows is.0 is.2 (omega (arith, high)))))
@@ -34,7 +34,7 @@ returns-in-LeftOfView-clause-counts c = on_ok_weaker c.add_left.result
 pub returns-in-Walk-clause-counts : goal.returns-in-Walk-clause-counts
 returns-in-Walk-clause-counts c = on_ok_weaker c.add_walked.result
     (λ counts. λ i j column row.
-    let high = ap (λ (t : RowFlipsValue). t.height) c.self.view_is in
+    let high = ap (λ (t : FlipsValue). t.height) c.self.view_is in
     let is = c.in-Walk.ensures.cases in
     counts i j column
     ∙ ap (λ (b : Bool). count_by (flips_by i j) c.args.self.now.flips + cond {A = ℕ} b 1 0) (sym (walk-share c.args.edge c.self.inside.height i j c.in-Walk.rows is.0 (omega (arith, high)))))

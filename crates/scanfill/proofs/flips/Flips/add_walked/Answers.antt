@@ -5,11 +5,11 @@ use Rattle.std.specs.Prelude.{int_le}
 use lib.IntN.{pos}
 use Rattle.clip.specs.EdgeClass.{has_row}
 use Rattle.scanfill.specs.Column.{column_of}
-use Rattle.scanfill.specs.RowFlips.{RowFlipsValue, flips_by}
+use Rattle.scanfill.specs.Flips.{FlipsValue, flips_by}
 use Rattle.scanfill.specs.Walk.{WalkValue}
 use Rattle.scanfill.proofs.FlipCounts.{rows-none, flips-more}
 use Rattle.scanfill.proofs.Words.{word}
-use Rattle.scanfill.proofs.row_flips.RowFlips.add_walked.Goals as goal
+use Rattle.scanfill.proofs.flips.Flips.add_walked.Goals as goal
 
 pub returns-then-rows-clause-counts : goal.returns-then-rows-clause-counts
 returns-then-rows-clause-counts c = on_ok_weaker c.add_flip.result
@@ -27,7 +27,7 @@ pub loop-row-preserved : goal.loop-row-preserved
 loop-row-preserved c =
     let l = c.loop-row in
     let e = c.args.edge in
-    let wide : l.self.width ≡ c.args.self.now.width = ap (λ (t : RowFlipsValue). t.width) l.invariant.sides in
+    let wide : l.self.width ≡ c.args.self.now.width = ap (λ (t : FlipsValue). t.width) l.invariant.sides in
     let at : column_of l.walk.edge l.walk.row ≡ column_of e l.row = ap (λ (w : WalkValue). column_of w.edge w.row) l.invariant.walk in
     let column = word (2 ^ 44) c.column-in-loop-row.result (omega arith) c.column-in-loop-row.ensures.range ∙ (c.column-in-loop-row.ensures.value ∙ at) in
     record {
@@ -47,7 +47,7 @@ returns-clause-counts c = on_ok_weaker c.add_flip-2.result
     let n = count_by (flips_by i j) c.args.self.now.flips in
     let last : l.row ≡ c.args.rows.to - 1 = omega (arith, l.auto.row-end, c.loop-row-test.false, c.requires.some) in
     let end : c.args.rows.to - 1 + 1 ≡ c.args.rows.to = omega (arith, c.requires.some) in
-    let wide : l.self.width ≡ c.args.self.now.width = ap (λ (t : RowFlipsValue). t.width) l.invariant.sides in
+    let wide : l.self.width ≡ c.args.self.now.width = ap (λ (t : FlipsValue). t.width) l.invariant.sides in
     let at : column_of l.walk.edge l.walk.row ≡ column_of e (c.args.rows.to - 1) = ap (λ (w : WalkValue). column_of w.edge w.row) l.invariant.walk ∙ ap (λ k. column_of e k) last in
     let column = word (2 ^ 44) c.column-2.result (omega arith) c.column-2.ensures.range ∙ (c.column-2.ensures.value ∙ at) in
     flips-more c.args.rows.from (c.args.rows.to - 1) j n (count_by (flips_by i j) l.self.flips) (count_by (flips_by i j) c.add_flip-2.new.self.flips)

@@ -1,8 +1,8 @@
 use Rattle.std.proofs.Common.{◌∙◌, ℕ, cond, ap}
 use Rattle.std.proofs.lemmas.List.Sorted.{All-permutation, IsNonDecreasingBy-from_sort, sum_by-IsPermutation}
 use Rattle.geom.specs.EvenOdd.{is_odd}
-use Rattle.scanfill.specs.RowFlips.{IsFlipOf, RowFlipsValue, is_pixel_flipped, flips_by}
-use Rattle.scanfill.proofs.row_flips.RowFlips.sort.Goals as goal
+use Rattle.scanfill.specs.Flips.{IsFlipOf, FlipsValue, is_pixel_flipped, flips_by}
+use Rattle.scanfill.proofs.flips.Flips.sort.Goals as goal
 
 pub invariant_of-self : goal.invariant_of-self
 invariant_of-self c =
@@ -14,4 +14,4 @@ returns-clause-rising c = IsNonDecreasingBy-from_sort (λ n. n) c.sort_unstable.
 pub returns-clause-same : goal.returns-clause-same
 returns-clause-same c = λ i j.
     ap is_odd (sum_by-IsPermutation (λ (k : ℕ). cond {A = ℕ} (flips_by i j k) 1 0) c.self.inside.indices.items c.sort_unstable.new.self.items c.sort_unstable.ensures.permutation)
-    ∙ ap (λ (t : RowFlipsValue). is_pixel_flipped t.flips i j) c.self.view_is
+    ∙ ap (λ (t : FlipsValue). is_pixel_flipped t.flips i j) c.self.view_is

@@ -1,5 +1,5 @@
 use Rattle.std.proofs.Common.{◌≡◌, ℕ, ◌<◌, ◌≤◌, false, length, get_or}
-use Rattle.scanfill.proofs.flips.clear_flips.Given as goal
+use Rattle.scanfill.proofs.row_flips.clear_flips.Given as goal
 
 abbrev pub invariant-loop-column : goal.invariant-loop-column
 invariant-loop-column l = record {
