@@ -1,9 +1,7 @@
-ghost use Rattle.std.specs.Prelude.{◌≡◌, ◌≤◌, ◌<◌, ◌+◌, ◌^◌, ℕ, pos, IfOk, length};
-ghost use Rattle.clip.specs.EdgeClass.{first_row};
-ghost use Rattle.geom.specs.Range.{IsBelow};
+ghost use Rattle.std.specs.Prelude.{◌≡◌, ◌<◌, ◌+◌, pos, IfOk};
 ghost use Rattle.canvas.specs.Latitudes.{AreBands, IsBand, row_of};
 
-use clip::clamped;
+use clip::first_row;
 use geom::{Coordinate, GREATEST_COORDINATE, LEAST_COORDINATE, Micro, PictureSide};
 use std::alloc::{AllocError, Global};
 use std::marker::Model;
@@ -39,8 +37,8 @@ impl Model for RowLatitudes {
 }
 
 impl RowLatitudes {
-    /// No bands yet of a projection's picture. It takes no memory.
-    pub fn new(alloc: Global, projection: &Projection) -> Self {
+    // No bands yet of a projection's picture. It takes no memory.
+    pub(crate) fn new(alloc: Global, projection: &Projection) -> Self {
         let area = projection.area();
         RowLatitudes {
             heights: projection.heights(),
@@ -51,8 +49,8 @@ impl RowLatitudes {
         }
     }
 
-    /// The bands of a projection's picture. It divides once for each row.
-    pub fn of(alloc: Global, projection: &Projection) -> Result<Self, AllocError> {
+    // The bands of a projection's picture. It divides once for each row.
+    pub(crate) fn of(alloc: Global, projection: &Projection) -> Result<Self, AllocError> {
         let height = projection.height();
         let bands = bands_of(alloc, projection)?;
         let area = projection.area();
@@ -65,8 +63,8 @@ impl RowLatitudes {
         })
     }
 
-    /// Whether it has no bands yet.
-    pub fn is_empty(&self) -> bool {
+    // Whether it has no bands yet.
+    pub(crate) fn is_empty(&self) -> bool {
         self.bands.is_empty()
     }
 
@@ -146,13 +144,4 @@ fn southward(latitude: Coordinate) -> Coordinate {
     } else {
         latitude
     }
-}
-
-/// The first row whose pixel centres lie at that height or below it, or the picture's height.
-#[tactic(auto, unfolding(clip::specs::EdgeClass::first_row))]
-pub fn first_row(y: i64, height: PictureSide) -> u16
-    requires { IsBelow (2 ^ 47) y }
-    ensures { result ≡ first_row y height }
-{
-    clamped(i128::from((y + 7).div_euclid(16)), height.pixels())
 }

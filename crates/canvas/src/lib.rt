@@ -21,5 +21,5 @@ mod rows;
 pub use boxes::{fill_pixel, fill_square};
 pub use canvas::Canvas;
 pub use colouring::Colouring;
-pub use latitudes::{Band, RowLatitudes, first_row, row_at};
+pub use latitudes::{Band, RowLatitudes, row_at};
 pub use rows::{paint_cover, paint_covers};

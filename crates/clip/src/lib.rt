@@ -15,4 +15,4 @@ mod rows;
 
 pub use class::{EdgeClass, classify, classify_in};
 pub use index::clamped;
-pub use rows::{RowRange, rows_of};
+pub use rows::{RowRange, first_row, rows_of};

@@ -1,4 +1,4 @@
-ghost use Rattle.std.specs.Prelude.{◌≡◌, ◌^◌, ◌≤◌, nat_le};
+ghost use Rattle.std.specs.Prelude.{◌≡◌, ◌^◌, nat_le};
 ghost use Rattle.clip.specs.EdgeClass.{first_row, has_row, joined, rows_of};
 ghost use Rattle.geom.specs.Range.{IsBelow};
 
@@ -56,9 +56,10 @@ pub fn rows_of(edge: Edge, height: PictureSide) -> RowRange
     }
 }
 
-// The first row whose pixel centres lie at that height or below it, or the picture's height.
+/// The first row whose pixel centres lie at that height, in sixteenths of a pixel from the top, or below it; or the picture's
+/// height. The height is below 2^47.
 #[tactic(auto, unfolding(crate::specs::EdgeClass::first_row))]
-fn first_row(y: i64, height: PictureSide) -> u16
+pub fn first_row(y: i64, height: PictureSide) -> u16
     requires { IsBelow (2 ^ 47) y }
     ensures { result ≡ first_row y height }
 {

@@ -1,5 +1,5 @@
 -- What is painted, and in which order (docs/DRAWING.md, "How features are painted").
-use Rattle.std.specs.Prelude.{ℕ, true, if◌then◌else◌, List, [], ◌++◌, map, slice_get}
+use Rattle.std.specs.Prelude.{ℕ, true, if◌then◌else◌, List, [], ◌++◌, slice_get}
 use Rattle.std.specs.List.{flat_map}
 use Rattle.std.specs.Option.{option_map_or}
 use Rattle.geom.specs.Device.{DevicePoint}
@@ -14,13 +14,13 @@ use Rattle.mapdefs.specs.declared.map.MapFields.{MapFields}
 use Rattle.mapdefs.specs.declared.style.StyleFields.{StyleFields}
 use Rattle.mapdefs.specs.declared.symbol.Symbol.{Symbol}
 use Rattle.strokes.specs.Line.{line_of}
-use Rattle.viewport.specs.View.{ViewValue, device_point}
+use Rattle.viewport.specs.View.{ViewValue, points_of}
 use Rattle.canvas.specs.Shapes.{PaintedShape, fills, strokes}
 use Rattle.inking.specs.Styles.{line_shapes, point_shapes}
 
 -- the parts of a feature on the picture: the rings of a polygon, or lines
 abbrev pub parts_of : ViewValue → FeatureFields → List (List DevicePoint)
-parts_of view feature = map (map (device_point view)) feature.parts
+parts_of view feature = points_of view feature.parts
 
 -- what a style paints of a polygon: its rings, and then the closed line along them in the colour of the outline
 abbrev pub polygon_shapes : List (List DevicePoint) → StyleFields → List PaintedShape

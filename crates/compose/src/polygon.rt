@@ -1,6 +1,6 @@
-ghost use Rattle.std.specs.Prelude.{◌≡◌, map, OnOk};
+ghost use Rattle.std.specs.Prelude.{◌≡◌, OnOk};
 ghost use Rattle.std.specs.List.{flat_map};
-ghost use Rattle.viewport.specs.View.{device_point};
+ghost use Rattle.viewport.specs.View.{points_of};
 ghost use Rattle.canvas.specs.Painted.{IsPainted};
 ghost use Rattle.compose.specs.Paint.{polygon_shapes};
 
@@ -21,7 +21,7 @@ pub fn paint_polygon(
 ) -> Result<(), AllocError>
     requires width { canvas.old.width ≡ scene.now.view.width }
     requires height { canvas.old.height ≡ scene.now.view.height }
-    ensures { let points = map (map (device_point scene.now.view)) rings.now in
+    ensures { let points = points_of scene.now.view rings.now in
         OnOk result (IsPainted canvas.old canvas.new (flat_map (polygon_shapes points) styles.now)) }
 {
     for style in styles {

@@ -13,13 +13,9 @@ use Rattle.scene.specs.Scene.{SceneValue}
 use Rattle.strokes.specs.Line.{line_of, square_at}
 use Rattle.strokes.specs.Line as line
 use Rattle.strokes.specs.Square.{covers_square}
-use Rattle.viewport.specs.View.{ViewValue, device_point}
+use Rattle.viewport.specs.View.{ViewValue, points_of}
 use Rattle.featureinfo.specs.Nearby.{SomeNear, nearby_of}
 use Rattle.featureinfo.specs.declared.nearby.Nearby.{Nearby}
-
--- parts on the picture
-abbrev pub points_of : ViewValue → List (List Place) → List (List DevicePoint)
-points_of view parts = map (map (device_point view)) parts
 
 -- the plain cover of the parts of a feature, whatever its styles are: a polygon, a line one pixel wide, or the pixels of points
 abbrev pub covers_plainly : ViewValue → Geometry → List (List Place) → ℕ → ℕ → Bool

@@ -1,5 +1,5 @@
-ghost use Rattle.std.specs.Prelude.{◌≡◌, map, [], ◌∷◌, OnOk, OnErr};
-ghost use Rattle.viewport.specs.View.{device_point};
+ghost use Rattle.std.specs.Prelude.{◌≡◌, [], ◌∷◌, OnOk, OnErr};
+ghost use Rattle.viewport.specs.View.{points_of};
 ghost use Rattle.canvas.specs.Painted.{IsPainted};
 ghost use Rattle.canvas.specs.Shapes.{Fill, fills};
 
@@ -25,7 +25,7 @@ pub fn fill_rings(
 ) -> Result<(), AllocError>
     requires width { canvas.old.width ≡ scene.now.view.width }
     requires height { canvas.old.height ≡ scene.now.view.height }
-    ensures { OnOk result (IsPainted canvas.old canvas.new (fills (map (map (device_point scene.now.view)) rings.now) style.now.colour)) }
+    ensures { OnOk result (IsPainted canvas.old canvas.new (fills (points_of scene.now.view rings.now) style.now.colour)) }
 {
     let Some(colour) = style.get().colour else {
         return Ok(());
@@ -46,7 +46,7 @@ fn fill_by_flips(
 ) -> Result<(), FlipFault>
     requires width { canvas.old.width ≡ scene.now.view.width }
     requires height { canvas.old.height ≡ scene.now.view.height }
-    ensures ok { OnOk result (IsPainted canvas.old canvas.new (Fill (map (map (device_point scene.now.view)) rings.now) colour ∷ [])) }
+    ensures ok { OnOk result (IsPainted canvas.old canvas.new (Fill (points_of scene.now.view rings.now) colour ∷ [])) }
     ensures err { OnErr result (canvas.new ≡ canvas.old) }
 {
     if canvas.make_latitudes(scene.projection()).is_err() {
@@ -75,7 +75,7 @@ fn fill_by_sweep(
     rings: &[Part],
     colour: Rgb,
 ) -> Result<(), AllocError>
-    ensures { OnOk result (IsPainted canvas.old canvas.new (Fill (map (map (device_point scene.now.view)) rings.now) colour ∷ [])) }
+    ensures { OnOk result (IsPainted canvas.old canvas.new (Fill (points_of scene.now.view rings.now) colour ∷ [])) }
 {
     let rings = scene.points_of(canvas.alloc(), rings)?;
     let polygon = Polygon::new(canvas.alloc(), &rings)?;

@@ -5,7 +5,7 @@ ghost use Rattle.geom.specs.EvenOdd.{edge_between, edges, ring_edges};
 ghost use Rattle.geom.specs.Laws.{is_one_of};
 ghost use Rattle.clip.specs.EdgeClass.{first_row};
 ghost use Rattle.scanfill.specs.Flips.{is_pixel_flipped};
-ghost use Rattle.viewport.specs.View.{device_point};
+ghost use Rattle.viewport.specs.View.{device_point, points_of};
 ghost use Rattle.vertices.specs.Chain.{HasChain, chain_end};
 ghost use Rattle.fills.specs.Flipped.{AddsChain, Adds, AddsEdge, IsCorner, IsRun, StandFor};
 
@@ -23,7 +23,7 @@ pub fn add_rings(flips: &mut Flips, rows: &RowFinder<'_>, rings: &[Part]) -> Res
     requires width { flips.old.width ≡ rows.now.width }
     requires height { flips.old.height ≡ rows.now.height }
     ensures sides { flips.new ≡ record flips.old { flips = flips.new.flips } }
-    ensures stand { OnOk result (StandFor rows.now flips.new.flips (edges (map (map (device_point rows.now)) rings.now))) }
+    ensures stand { OnOk result (StandFor rows.now flips.new.flips (edges (points_of rows.now rings.now))) }
 {
     for ring in rings {
         add_ring(flips, rows, ring)?;

@@ -1,11 +1,11 @@
-ghost use Rattle.std.specs.Prelude.{◌≡◌, ◌^◌, ◌&&◌, ◌≤ℤ◌, int_le};
-ghost use Rattle.geom.specs.Range.{IsBelow};
+ghost use Rattle.std.specs.Prelude.{◌≡◌, ◌&&◌, int_le};
 ghost use Rattle.geom.specs.World.{IsExtent};
 ghost use Rattle.clip.specs.EdgeClass.{first_row};
 ghost use Rattle.fills.specs.Flipped.{is_left, is_right, IsCorner, IsRun};
 ghost use Rattle.canvas.specs.Latitudes.{row_of};
 
-use canvas::{Band, RowLatitudes, first_row, row_at};
+use canvas::{Band, RowLatitudes, row_at};
+use clip::first_row;
 use geom::{Coordinate, Device, World};
 use mapdefs::BlockBox;
 use std::marker::Model;

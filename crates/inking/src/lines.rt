@@ -1,6 +1,6 @@
-ghost use Rattle.std.specs.Prelude.{◌≡◌, map, OnOk};
+ghost use Rattle.std.specs.Prelude.{◌≡◌, OnOk};
 ghost use Rattle.std.specs.List.{flat_map};
-ghost use Rattle.viewport.specs.View.{device_point};
+ghost use Rattle.viewport.specs.View.{points_of};
 ghost use Rattle.inking.specs.Styles.{line_shapes};
 ghost use Rattle.canvas.specs.Painted.{IsPainted};
 
@@ -20,7 +20,7 @@ pub fn paint_lines(
 ) -> Result<(), AllocError>
     requires width { canvas.old.width ≡ scene.now.view.width }
     requires height { canvas.old.height ≡ scene.now.view.height }
-    ensures { let points = map (map (device_point scene.now.view)) parts.now in
+    ensures { let points = points_of scene.now.view parts.now in
         OnOk result (IsPainted canvas.old canvas.new (flat_map (line_shapes points) styles.now)) }
 {
     for style in styles {
@@ -38,7 +38,7 @@ fn paint_by_style(
 ) -> Result<(), AllocError>
     requires width { canvas.old.width ≡ scene.now.view.width }
     requires height { canvas.old.height ≡ scene.now.view.height }
-    ensures { OnOk result (IsPainted canvas.old canvas.new (line_shapes (map (map (device_point scene.now.view)) parts.now) style.now)) }
+    ensures { OnOk result (IsPainted canvas.old canvas.new (line_shapes (points_of scene.now.view parts.now) style.now)) }
 {
     let style = style.get();
     let Some(colour) = style.colour else {

@@ -1,6 +1,6 @@
-ghost use Rattle.std.specs.Prelude.{◌≡◌, true, map, OnOk};
+ghost use Rattle.std.specs.Prelude.{◌≡◌, true, OnOk};
 ghost use Rattle.strokes.specs.Line.{line_of};
-ghost use Rattle.viewport.specs.View.{device_point};
+ghost use Rattle.viewport.specs.View.{points_of};
 ghost use Rattle.canvas.specs.Painted.{IsPainted};
 ghost use Rattle.canvas.specs.Shapes.{strokes};
 
@@ -23,7 +23,7 @@ pub fn paint_outline(
     requires width { canvas.old.width ≡ scene.now.view.width }
     requires height { canvas.old.height ≡ scene.now.view.height }
     ensures { OnOk result (IsPainted canvas.old canvas.new
-        (strokes (line_of (map (map (device_point scene.now.view)) rings.now) true style.now.width) style.now.outline)) }
+        (strokes (line_of (points_of scene.now.view rings.now) true style.now.width) style.now.outline)) }
 {
     let style = style.get();
     let Some(colour) = style.outline else {

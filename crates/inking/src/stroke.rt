@@ -5,7 +5,7 @@ ghost use Rattle.mapdefs.specs.declared.limits.TheConstants.{MAX_LINE_WIDTH};
 ghost use Rattle.strokes.specs.Strip.{is_small};
 ghost use Rattle.strokes.specs.Line.{line_of};
 ghost use Rattle.strokes.specs.Line as line;
-ghost use Rattle.viewport.specs.View.{device_point};
+ghost use Rattle.viewport.specs.View.{device_point, points_of};
 ghost use Rattle.vertices.specs.Chain.{HasChain, chain_end};
 ghost use Rattle.canvas.specs.Painted.{IsFilled};
 ghost use Rattle.inking.specs.Stroked.{HasAlready, IsOf, IsTip, IsTrail, chain_covers, part_covers, pen_covers, segment_covers, step_covers, vertex_covers};
@@ -29,7 +29,7 @@ pub fn paint_along_parts(
     closed: bool,
 ) -> Result<(), AllocError>
     requires { IsOf pen.now canvas.old }
-    ensures { OnOk result (IsFilled (λ i j. line.covers_pixel (line_of (map (map (device_point pen.now.view)) parts.now) closed pen.now.width) (pos i) (pos j)) (λ i j. Some pen.now.colour) canvas.old canvas.new) }
+    ensures { OnOk result (IsFilled (λ i j. line.covers_pixel (line_of (points_of pen.now.view parts.now) closed pen.now.width) (pos i) (pos j)) (λ i j. Some pen.now.colour) canvas.old canvas.new) }
 {
     for part in parts {
         paint_along(canvas, pen, part, closed)?;

@@ -3,7 +3,7 @@ ghost use Rattle.geom.specs.Range.{IsBelow};
 ghost use Rattle.labelink.specs.Ink.{covers_glyph, outlines_glyph};
 
 use crate::placed_glyph::PlacedGlyph;
-use clip::{RowRange, clamped};
+use clip::RowRange;
 use geom::PictureSide;
 use scanfill::{BoxShape, Cover, Span, Spans, row_of_box};
 use std::alloc::AllocError;
@@ -31,10 +31,7 @@ fn span_round(side: u8, at: i64, end: u16) -> Span
     ensures before { (i : ℕ) → i < result.from → pos (i + 1) <ℤ at }
     ensures after { (i : ℕ) → result.to ≤ i → i < end → (at +ℤ pos (side + 1)) ≤ℤ pos i }
 {
-    Span {
-        from: clamped(i128::from(at - 1), end),
-        to: clamped(i128::from(at + i64::from(side) + 1), end),
-    }
+    Span::clipped(at - 1, at + i64::from(side) + 1, end)
 }
 
 impl<'a> GlyphOutline<'a> {

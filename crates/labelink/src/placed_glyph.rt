@@ -3,7 +3,7 @@ ghost use Rattle.geom.specs.Range.{IsBelow};
 ghost use Rattle.labelink.specs.Ink.{covers_glyph};
 
 use bdffont::inks_at;
-use clip::{RowRange, clamped};
+use clip::RowRange;
 use geom::PictureSide;
 use mapdefs::Glyph;
 use scanfill::{BoxShape, Cover, Span, Spans, row_of_box};
@@ -90,10 +90,7 @@ fn span_on(side: u8, at: i64, end: u16) -> Span
     ensures before { (i : ℕ) → i < result.from → pos i <ℤ at }
     ensures after { (i : ℕ) → result.to ≤ i → i < end → (at +ℤ pos side) ≤ℤ pos i }
 {
-    Span {
-        from: clamped(i128::from(at), end),
-        to: clamped(i128::from(at + i64::from(side)), end),
-    }
+    Span::clipped(at, at + i64::from(side), end)
 }
 
 impl Cover for PlacedGlyph<'_> {

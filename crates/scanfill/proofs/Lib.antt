@@ -1,6 +1,8 @@
+pub mod Clipped
 pub mod Columns
 pub mod Counting
 pub mod Covering
+pub mod FlipCounts
 pub mod Flipping
 pub mod Marching
 pub mod Pairing
@@ -12,5 +14,4 @@ pub mod Shares
 pub mod Sizes
 pub mod Steps
 pub mod Sweeping
-pub mod FlipCounts
 pub mod Words

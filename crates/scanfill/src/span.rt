@@ -1,5 +1,7 @@
-ghost use Rattle.std.specs.Prelude.{◌≡◌, [], ◌∷◌, ◌++◌, OnOk, OnErr};
+ghost use Rattle.std.specs.Prelude.{◌≡◌, [], ◌∷◌, ◌++◌, min, OnOk, OnErr};
+ghost use Rattle.clip.specs.EdgeClass.{at_least_zero};
 
+use clip::clamped;
 use smallvec::SmallVec;
 use std::alloc::{AllocError, Global};
 use std::marker::Model;
@@ -11,6 +13,19 @@ pub struct Span {
     pub from: u16,
     /// The column after the last one.
     pub to: u16,
+}
+
+impl Span {
+    /// The columns, or the rows, of the first `end`, from one number on and before another one. Each of the two may lie before
+    /// the first or past the last.
+    pub fn clipped(from: i64, to: i64, end: u16) -> Span
+        ensures { result ≡ record { from = min (at_least_zero from) end; to = min (at_least_zero to) end } }
+    {
+        Span {
+            from: clamped(i128::from(from), end),
+            to: clamped(i128::from(to), end),
+        }
+    }
 }
 
 /// The spans of a row. Up to eight of them take no memory.

@@ -1,5 +1,5 @@
 ghost use Rattle.std.specs.Prelude.{◌≡◌, map, IfOk, vec_items};
-ghost use Rattle.viewport.specs.View.{device_point};
+ghost use Rattle.viewport.specs.View.{device_point, points_of};
 
 use geom::{Device, World};
 use mapdefs::Part;
@@ -12,7 +12,7 @@ pub fn points_of_parts(
     projection: &Projection,
     parts: &[Part],
 ) -> Result<Vec<Vec<Device>>, AllocError>
-    ensures { IfOk result (λ points. map vec_items points.items ≡ map (map (device_point projection.now)) parts.now) }
+    ensures { IfOk result (λ points. map vec_items points.items ≡ points_of projection.now parts.now) }
 {
     let mut points = Vec::with_capacity(alloc, parts.len())?;
     for part in parts {

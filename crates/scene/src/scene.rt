@@ -4,7 +4,7 @@ ghost use Rattle.geom.specs.Device.{pixel_of};
 ghost use Rattle.mapdefs.specs.Class.{class_of, is_visible_layer};
 ghost use Rattle.geom.specs.Side.{IsPictureSide};
 ghost use Rattle.geom.specs.World.{IsExtent};
-ghost use Rattle.viewport.specs.View.{device_point, window};
+ghost use Rattle.viewport.specs.View.{device_point, points_of, window};
 ghost use Rattle.viewport.specs.declared.view.TheConstants.{MAX_MARGIN};
 
 use crate::classes::first_class;
@@ -125,7 +125,7 @@ impl<'a> Scene<'a> {
 
     /// The parts of a feature on the picture: each vertex at its device point.
     pub fn points_of(&self, alloc: Global, parts: &[Part]) -> Result<Vec<Vec<Device>>, AllocError>
-        ensures { IfOk result (λ points. map vec_items points.items ≡ map (map (device_point self.now.view)) parts.now) }
+        ensures { IfOk result (λ points. map vec_items points.items ≡ points_of self.now.view parts.now) }
     {
         points_of_parts(alloc, &self.projection, parts)
     }

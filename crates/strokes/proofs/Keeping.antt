@@ -98,13 +98,3 @@ opposite-word k h = omega (arith, ints)
 
 pub next-wide : (q : ℤ) → IsBelow (2 ^ 100) q → to_z w128 (of_z w128 (to_z w128 (of_z w128 q) +ℤ pos 1)) ≡ q +ℤ pos 1
 next-wide q h = omega (arith, ints)
-
-pub next-word : (q : ℤ) → IsBelow (2 ^ 54) q → to_z w64 (of_z w64 (to_z w64 (of_z w64 q) +ℤ pos 1)) ≡ q +ℤ pos 1
-next-word q h = omega (arith, ints)
-
-pub after-word : (x q : ℤ) → x ≡ q → IsBelow (2 ^ 54) q → to_z w64 (of_z w64 (to_z w64 (of_z w64 x) +ℤ pos 1)) ≡ q +ℤ pos 1
-after-word x q e h = ap (λ z. to_z w64 (of_z w64 (to_z w64 (of_z w64 z) +ℤ pos 1))) e ∙ next-word q h
-
--- what i128 holds of the latter
-pub next-widened : (q : ℤ) → IsBelow (2 ^ 54) q → to_z w128 (of_z w128 (q +ℤ pos 1)) ≡ q +ℤ pos 1
-next-widened q h = omega (arith, ints)

@@ -9,7 +9,6 @@ ghost use Rattle.strokes.specs.Strip.{IsStrip, is_small, is_small_point, reached
 
 use crate::segment::turned_edge;
 use crate::steps::Steps;
-use clip::clamped;
 use geom::{Device, Edge};
 use scanfill::Span;
 use std::marker::Model;
@@ -71,10 +70,7 @@ impl Strip {
     {
         let from = (self.edge.low_end().y() + 7).div_euclid(16);
         let last = (self.edge.high_end().y() - 8).div_euclid(16);
-        Span {
-            from: clamped(i128::from(from), end),
-            to: clamped(i128::from(last) + 1, end),
-        }
+        Span::clipped(from, last + 1, end)
     }
 
     /// The walk that begins in a row.
@@ -143,10 +139,7 @@ fn columns_after(column: i64, width: u8, end: u16) -> Span
     ensures within { result.to ≤ end }
 {
     let last = column + i64::from(width);
-    Span {
-        from: clamped(i128::from(column + 1), end),
-        to: clamped(i128::from(last + 1), end),
-    }
+    Span::clipped(column + 1, last + 1, end)
 }
 
 /// Whether both ends of an edge lie within 2^20 pixels of the picture's corner, so that 64 bits suffice.

@@ -185,10 +185,7 @@ fn span_on(side: u16, at: i64, end: u16) -> Span
     ensures part { result.from < result.to → result.to - result.from + skipped side at ≤ side }
 {
     let first = at - i64::from(side / 2);
-    Span {
-        from: clamped(i128::from(first), end),
-        to: clamped(i128::from(first + i64::from(side)), end),
-    }
+    Span::clipped(first, first + i64::from(side), end)
 }
 
 /// Whether the colour means none.

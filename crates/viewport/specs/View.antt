@@ -1,5 +1,5 @@
 -- From the world to the picture (docs/DRAWING.md, "From the world to the picture").
-use Rattle.std.specs.Prelude.{ℕ, ◌+◌, ◌*◌, ◌≤◌, ℤ, pos, neg_ℤ, ◌+ℤ◌, ◌-ℤ◌, ◌*ℤ◌, ◌<ℤ◌, ◌≤ℤ◌, unsigned_abs}
+use Rattle.std.specs.Prelude.{ℕ, ◌+◌, ◌*◌, ◌≤◌, List, map, ℤ, pos, neg_ℤ, ◌+ℤ◌, ◌-ℤ◌, ◌*ℤ◌, ◌<ℤ◌, ◌≤ℤ◌, unsigned_abs}
 use Rattle.std.specs.Int.{div_ceil, int_div_euclid}
 use Rattle.geom.specs.Device.{DevicePoint, PixelValue, pixel_of}
 use Rattle.geom.specs.Side.{IsPictureSide}
@@ -49,6 +49,10 @@ device_point view p = record {
   x = sixteenths view.width (p.x -ℤ view.area.minx) (view.area.maxx -ℤ view.area.minx);
   y = sixteenths view.height (view.area.maxy -ℤ height_of view.heights p.y) (view.area.maxy -ℤ view.area.miny);
 }
+
+-- where the places of some parts lie
+abbrev pub points_of : ViewValue → List (List Place) → List (List DevicePoint)
+points_of view parts = map (map (device_point view)) parts
 
 -- how many millionths of a degree so many pixels show, where a side of that many shows a span: rounded up
 unfoldable pub shown_by : ℕ → ℕ → ℕ → ℕ

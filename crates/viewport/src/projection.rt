@@ -103,7 +103,7 @@ impl Projection {
         self.view.window(margin)
     }
 
-    /// Where a place lies on the picture, or off it: what `View::device` gives.
+    /// Where a place lies on the picture, or off it.
     pub fn device(&self, place: World) -> Device
         ensures { result ≡ device_point self.now place }
     {

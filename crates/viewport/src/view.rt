@@ -1,12 +1,13 @@
-ghost use Rattle.std.specs.Prelude.{◌≡◌, ◌≤◌, ◌<◌, ◌^◌, pos, ◌+ℤ◌, ◌-ℤ◌, ◌<ℤ◌, unsigned_abs, IsTrue};
+ghost use Rattle.std.specs.Prelude.{◌≡◌, ◌≤◌, ◌<◌, ◌^◌, pos, ◌+ℤ◌, ◌-ℤ◌, unsigned_abs, IsTrue};
 ghost use Rattle.geom.specs.Device.{pixel_of};
 ghost use Rattle.geom.specs.Range.{IsBelow, IsWithin};
 ghost use Rattle.geom.specs.World.{IsCoordinate, IsExtent};
-ghost use Rattle.viewport.specs.View.{height_of, north_of, shown_by, sixteenths, south_of};
+ghost use Rattle.viewport.specs.View.{north_of, shown_by, south_of};
 ghost use Rattle.viewport.specs.declared.view.TheConstants.{MAX_MARGIN};
 
 use crate::heights::Heights;
-use geom::{Coordinate, Device, Micro, PictureSide, Pixel, World, WorldBox};
+use crate::projection::Projection;
+use geom::{Device, Micro, PictureSide, Pixel, World, WorldBox};
 use std::marker::Model;
 
 /// The most pixels that a window has on each side of the picture.
@@ -90,11 +91,11 @@ impl View {
         self.height
     }
 
-    /// Where a place lies on the picture, or off it.
+    /// Where a place lies on the picture, or off it. It makes a projection for this one place.
     pub fn device(self, place: World) -> Device
         ensures { result ≡ device_point self place }
     {
-        Device::new(self.across(place.x()), self.down(place.y()))
+        Projection::new(self).device(place)
     }
 
     /// The pixel that a place lies in.
@@ -126,33 +127,6 @@ impl View {
             north_side(heights, area.maxy(), down),
         )
     }
-
-    // How far a longitude is from the left, in sixteenths of a pixel.
-    fn across(self, longitude: Coordinate) -> i64
-        ensures value { result ≡ sixteenths self.width (longitude -ℤ self.area.minx) (self.area.maxx -ℤ self.area.minx) }
-        ensures range { IsBelow (2 ^ 47) result }
-    {
-        let View { area, width, .. } = self;
-        let part = difference(longitude.get(), area.minx());
-        let whole = difference(area.maxx(), area.minx());
-        sixteenths(width, part, whole)
-    }
-
-    // How far a latitude is from the top, in sixteenths of a pixel.
-    fn down(self, latitude: Coordinate) -> i64
-        ensures value { result ≡ sixteenths self.height (self.area.maxy -ℤ height_of self.heights latitude) (self.area.maxy -ℤ self.area.miny) }
-        ensures range { IsBelow (2 ^ 47) result }
-    {
-        let View {
-            heights,
-            area,
-            height,
-            ..
-        } = self;
-        let part = below(area.maxy(), heights.of(latitude));
-        let whole = difference(area.maxy(), area.miny());
-        sixteenths(height, part, whole)
-    }
 }
 
 // Whether two parts of the world have the same sides.
@@ -183,17 +157,6 @@ pub(crate) fn below(top: Micro, height: i64) -> i64
     ensures range { IsBelow (2 ^ 31) result }
 {
     top.millionths() - height
-}
-
-// How far a part is of the whole, in sixteenths of a pixel, rounded down.
-#[tactic(auto, unfolding(crate::specs::View::sixteenths))]
-fn sixteenths(side: PictureSide, part: i64, whole: i64) -> i64
-    requires part { IsBelow (2 ^ 31) part }
-    requires whole { pos 0 <ℤ whole }
-    ensures value { result ≡ sixteenths side part whole }
-    ensures range { IsBelow (2 ^ 47) result }
-{
-    (16 * i64::from(side.pixels()) * part).div_euclid(whole)
 }
 
 // How far two coordinates are apart, in millionths of a degree.

@@ -1,4 +1,4 @@
-use Rattle.std.proofs.Common.{◌≡◌, ◌+◌, ◌^◌, ◌<◌, ◌&&◌, ℕ, false, Some, sym, arith}
+use Rattle.std.proofs.Common.{◌≡◌, ◌+◌, ◌^◌, ◌<◌, ℕ, false, Some, sym, arith}
 use Rattle.std.proofs.lemmas.Bool.{and_left}
 use lib.IntN.{pos}
 use Rattle.scanfill.proofs.Words.{word}

@@ -3,7 +3,7 @@ use Rattle.std.proofs.Math.ListN.{drop_of_length-le}
 use Rattle.geom.specs.World.{Place}
 use Rattle.clip.specs.EdgeClass.{first_row}
 use Rattle.scanfill.specs.Flips.{FlipsValue}
-use Rattle.viewport.specs.View.{ViewValue, device_point}
+use Rattle.viewport.specs.View.{device_point}
 use Rattle.vertices.specs.Chain.{chain_edges, chain_end}
 use Rattle.fills.specs.Flipped.{AddsEdge}
 use Rattle.vertices.proofs.Blocks.{rest-next}

@@ -1,6 +1,0 @@
-use Rattle.std.proofs.Common.{arith}
-use Rattle.std.proofs.lemmas.Int.{ints}
-use Rattle.canvas.proofs.latitudes.first_row.Goals as goal
-
-pub overflow_add-y : goal.overflow_add-y
-overflow_add-y c = omega (arith, ints, c.requires)
