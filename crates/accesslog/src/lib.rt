@@ -13,7 +13,7 @@ mod sink;
 mod transport;
 
 pub use line::{AnswerNote, Cause, answer_line, command_line, dropped_line, end_line};
-pub use queue::{LINES, LogQueue};
+pub use queue::{LogQueue, MAX_LINES};
 pub use record::Record;
 pub use sink::LoggedSink;
 pub use transport::{EndsEarly, LoggedTransport};

@@ -9,7 +9,7 @@ use std::sync::{Arc, Wait};
 use std::time::Instant;
 
 /// How many lines wait to be written, at most.
-pub const LINES: usize = 4_096;
+pub const MAX_LINES: usize = 4_096;
 
 // What the ends of a queue share.
 #[derive(Drop)]
@@ -97,7 +97,7 @@ fn shared_of(alloc: Global) -> Result<Arc<Shared, Global>, AllocError> {
     Ok(Arc::new(
         alloc,
         Shared {
-            lines: ArrayQueue::new(alloc, LINES)?,
+            lines: ArrayQueue::new(alloc, MAX_LINES)?,
             dropped: AtomicU64::new(0),
             is_ended: AtomicBool::new(false),
         },

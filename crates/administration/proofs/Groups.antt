@@ -26,7 +26,7 @@ use Rattle.administration.specs.Serving.{AreDone, ArePublished, AreSubmitted, Ha
 use Rattle.administration.specs.declared.done.Done.{Done}
 use Rattle.administration.specs.declared.group.Next.{Next}
 use Rattle.administration.specs.declared.group.Next.TheVariants as next
-use Rattle.administration.specs.declared.group.TheConstants.{GROUP}
+use Rattle.administration.specs.declared.group.TheConstants.{MAX_GROUP}
 use Rattle.administration.specs.declared.done.Done.TheVariants as done
 use Rattle.administration.proofs.Steps.{HasCome, all-done}
 
@@ -308,7 +308,7 @@ module _ {O : Type 0} (opening : State) (held : O → Option (List ℕ)) (taken 
     }
 
     -- the writer failed within the lines of these batches
-    pub group-cut : (after : Option (List ℕ)) (more : List ℕ) (results : List Done) (next : Batches) (last : O) → Consumes middle after more → length batches ≤ GROUP
+    pub group-cut : (after : Option (List ℕ)) (more : List ℕ) (results : List Done) (next : Batches) (last : O) → Consumes middle after more → length batches ≤ MAX_GROUP
         → AreSubmitted opening now batches results next → IsCutSomewhere held taken current (lines_of results) last → IsCutShort opening start after held taken old first next last
     group-cut after more results next last read few submitted cut =
         let done : AreDone opening (map Submit batches ++ []) now (bytes ++ more) (lines_of results ++ []) more next =
@@ -327,7 +327,7 @@ module _ {O : Type 0} (opening : State) (held : O → Option (List ℕ)) (taken 
         }
 
     -- the keeper failed
-    pub group-failed : (after : Option (List ℕ)) (more : List ℕ) (done failed : List (List ℕ)) (results : List Done) (next : Batches) (last : O) → Consumes middle after more → length batches ≤ GROUP → batches ≡ done ++ failed
+    pub group-failed : (after : Option (List ℕ)) (more : List ℕ) (done failed : List (List ℕ)) (results : List Done) (next : Batches) (last : O) → Consumes middle after more → length batches ≤ MAX_GROUP → batches ≡ done ++ failed
         → AreSubmitted opening now done results next → HasFailed opening next failed → IsReported held taken current (lines_of results ++ failed_lines (length failed)) last
         → IsFailed opening start after held taken old first next last
     group-failed after more done failed results next last read few whole submitted fails reported = record {
@@ -340,7 +340,7 @@ module _ {O : Type 0} (opening : State) (held : O → Option (List ℕ)) (taken 
       results = results;
       rest = more;
       begins = subst (λ (l : List (List ℕ)). StartWith (map Submit l) (bytes ++ more) more) whole (are more);
-      few = subst (λ (l : List (List ℕ)). length l ≤ GROUP) whole few;
+      few = subst (λ (l : List (List ℕ)). length l ≤ MAX_GROUP) whole few;
       done = submitted;
       fails = fails;
       reported = reported;

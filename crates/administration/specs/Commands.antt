@@ -6,7 +6,7 @@ use Rattle.batches.specs.Command.{count_of, is_line_end}
 use Rattle.batches.specs.declared.fault.TheConstants.{MAX_BATCH}
 use Rattle.administration.specs.declared.line.ClientLine.{ClientLine}
 use Rattle.administration.specs.declared.line.ClientLine.TheVariants as line
-use Rattle.administration.specs.declared.line.TheConstants.{LINE}
+use Rattle.administration.specs.declared.line.TheConstants.{MAX_LINE_BYTES}
 
 -- to submit a batch of these bytes, to publish the pending batches, or no command
 pub data Command : Type 0 where
@@ -36,6 +36,6 @@ command_of line.Malformed rest = Some (Malformed, rest)
 -- bytes without an LF are malformed, whatever follows
 unfoldable pub first_command : List ℕ → Option (Command × List ℕ)
 first_command bytes =
-    if list_any is_line_end (take LINE bytes) then command_of (line_of (before_first is_line_end bytes)) (after_first is_line_end bytes)
-    else if nat_le LINE (length bytes) then Some (Malformed, drop LINE bytes)
+    if list_any is_line_end (take MAX_LINE_BYTES bytes) then command_of (line_of (before_first is_line_end bytes)) (after_first is_line_end bytes)
+    else if nat_le MAX_LINE_BYTES (length bytes) then Some (Malformed, drop MAX_LINE_BYTES bytes)
     else None

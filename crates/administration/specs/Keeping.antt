@@ -9,7 +9,7 @@ use Rattle.administration.specs.Reading.{StartWith}
 use Rattle.administration.specs.Serving.{AreDone, AreSubmitted, HasDoneAll, is_malformed, lines_of}
 use Rattle.administration.specs.declared.done.Done.{Done}
 use Rattle.administration.specs.declared.done.Done.TheVariants as done
-use Rattle.administration.specs.declared.group.TheConstants.{GROUP}
+use Rattle.administration.specs.declared.group.TheConstants.{MAX_GROUP}
 use Rattle.administration.specs.declared.results.Front.{Front}
 use Rattle.batches.specs.declared.fault.BatchError.{BatchError}
 use Rattle.batches.specs.declared.fault.BatchError.TheVariants as error
@@ -65,7 +65,7 @@ module _ {O : Type 0} (opening : State) (before after : Option (List ℕ)) (held
     pub lines : List ℕ
     pub rest : List ℕ
     pub done : AreDone opening commands between bytes lines rest new
-    pub few : length commands ≤ GROUP
+    pub few : length commands ≤ MAX_GROUP
     pub cut : IsCutSomewhere held taken middle lines last
 
   -- the keeper failed: of the batches that were read last, 64 at most, the first are done. Each of the others may be kept or not, and none of them is
@@ -80,7 +80,7 @@ module _ {O : Type 0} (opening : State) (before after : Option (List ℕ)) (held
     pub results : List Done
     pub rest : List ℕ
     pub begins : StartWith (map Submit (batches ++ failed)) bytes rest
-    pub few : length (batches ++ failed) ≤ GROUP
+    pub few : length (batches ++ failed) ≤ MAX_GROUP
     pub done : AreSubmitted opening between batches results new
     pub fails : HasFailed opening new failed
     pub reported : IsReported held taken middle (lines_of results ++ failed_lines (length failed)) last

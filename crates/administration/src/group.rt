@@ -1,17 +1,17 @@
 ghost use Rattle.std.specs.Prelude.{◌≡◌, ◌≤◌, ◌++◌, [], ◌∷◌, ℕ, List, length, IfErr, IsTrue, OnErr, OnOk, Some};
 ghost use Rattle.administration.specs.Commands.{Command, Submit, first_command};
 ghost use Rattle.administration.specs.Reading.{HasReadGroup, IsHeldOf, IsOther};
-ghost use Rattle.administration.specs.declared.group.TheConstants.{GROUP};
+ghost use Rattle.administration.specs.declared.group.TheConstants.{MAX_GROUP};
 ghost use Rattle.journal.specs.Texts.{texts_of};
 
-use crate::line::{ClientLine, LINE, line_of};
+use crate::line::{ClientLine, MAX_LINE_BYTES, line_of};
 use crate::reading::{ReadCommand, read_command};
 use batches::line_len;
 use std::alloc::Global;
 use streams::BufferedSource;
 
 /// The most batches that are kept by one sync.
-pub const GROUP: usize = 64;
+pub const MAX_GROUP: usize = 64;
 
 // A command that keeps no batch.
 #[derive(Clone, Copy)]
@@ -48,7 +48,7 @@ fn starts_with_batch(bytes: &[u8]) -> bool
 {
     let (line, rest) = bytes.split_at(line_len(bytes));
     match rest {
-        [_, rest @ ..] if line.len() < LINE => match line_of(line) {
+        [_, rest @ ..] if line.len() < MAX_LINE_BYTES => match line_of(line) {
             ClientLine::Batch(count) => count <= rest.len(),
             ClientLine::Retry | ClientLine::Malformed => false,
         },
@@ -75,10 +75,10 @@ fn add_batch(batches: &mut Vec<Vec<u8>>, asked: ReadCommand) -> Result<(), Other
 pub(crate) fn read_group<I: BufferedSource>(alloc: Global, reader: &mut I) -> Group
     ensures read { HasReadGroup (I.Source.left reader.old) (I.Source.left reader.new) (I.Source.take_failed reader.new)
         (texts_of result.batches.items) result.next }
-    ensures few { length result.batches.items ≤ GROUP }
+    ensures few { length result.batches.items ≤ MAX_GROUP }
 {
     let mut batches = Vec::new(alloc);
-    for _ in 0..GROUP {
+    for _ in 0..MAX_GROUP {
         let Some(asked) = read_command(alloc, reader) else {
             return Group {
                 batches,

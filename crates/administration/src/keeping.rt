@@ -8,7 +8,7 @@ ghost use Rattle.administration.specs.Commands.{Command};
 ghost use Rattle.administration.specs.Keeping.{HasFailed, IsCutShort, IsFailed, IsKeptSince, IsReported, failed_lines, results_of};
 ghost use Rattle.administration.specs.Reading.{IsOther};
 ghost use Rattle.administration.specs.Serving.{ArePublished, AreSubmitted, HasDone, HasDoneAll, IsServed, lines_of};
-ghost use Rattle.administration.specs.declared.group.TheConstants.{GROUP};
+ghost use Rattle.administration.specs.declared.group.TheConstants.{MAX_GROUP};
 ghost use Rattle.administration.specs.declared.keeping.AdministerFault.TheVariants as fault;
 
 use crate::done::{Done, send_line};
@@ -83,7 +83,7 @@ fn accept_all<S: Sharing, K: Keeps, R: Wait>(
     keeper: &mut K,
     batches: &[Vec<u8>],
 ) -> (Admin<S>, Results, Result<(), KeepFailed>)
-    requires few { length batches.now ≤ GROUP }
+    requires few { length batches.now ≤ MAX_GROUP }
     requires ready { (kept : List (List ℕ)) × K.keeps keeper.old kept }
     ensures done { OnOk result.2 (AreSubmitted S.opening admin (texts_of batches.now) result.1 result.0) }
     ensures failed { OnErr result.2 ((first failed : List (List ℕ)) × (texts_of batches.now ≡ first ++ failed)

@@ -19,8 +19,8 @@ mod results;
 mod serving;
 
 pub use done::Done;
-pub use group::GROUP;
+pub use group::MAX_GROUP;
 pub use keeping::{AdministerFault, administer_kept};
-pub use line::{ClientLine, LINE};
+pub use line::{ClientLine, MAX_LINE_BYTES};
 pub use reading::ReadCommand;
 pub use serving::administer;

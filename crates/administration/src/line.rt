@@ -5,7 +5,7 @@ ghost use Rattle.administration.specs.Commands.{line_of};
 use batches::{MAX_BATCH, count_of};
 
 /// The most bytes of a line, with the LF at its end.
-pub const LINE: usize = 33;
+pub const MAX_LINE_BYTES: usize = 33;
 
 /// The meaning of a line of a client.
 #[derive(Clone, Copy)]

@@ -3,12 +3,12 @@ ghost use Rattle.std.specs.Io.KnownBytes.{Consumes};
 ghost use Rattle.administration.specs.Commands.{Command, Submit, first_command};
 ghost use Rattle.administration.specs.Reading.{HasEnded, IsCommandOf, IsHeldOf, IsLineOf};
 
-use crate::line::{ClientLine, LINE, line_of};
+use crate::line::{ClientLine, MAX_LINE_BYTES, line_of};
 use std::alloc::Global;
 use streams::Source;
 
 // How many bytes are read at once, at most.
-const PIECE: usize = 4_096;
+const PIECE_BYTES: usize = 4_096;
 
 /// A command of a client, as far as it is held.
 #[derive(Drop)]
@@ -40,8 +40,8 @@ fn read_line<I: Source>(reader: &mut I) -> Option<ClientLine>
         ((bytes : List ℕ) × HasEnded (I.left reader.old) (I.left reader.new) (I.take_failed reader.new) bytes × (first_command bytes ≡ None))
         (λ line. (bytes : List ℕ) × Consumes (I.left reader.old) (I.left reader.new) bytes × IsLineOf bytes line) }
 {
-    let mut text = [0; LINE];
-    for at in 0..LINE {
+    let mut text = [0; MAX_LINE_BYTES];
+    for at in 0..MAX_LINE_BYTES {
         let byte = read_byte(reader)?;
         if byte == b'\n' {
             return Some(line_of(&text[..at]));
@@ -69,10 +69,10 @@ fn read_batch<I: Source>(alloc: Global, reader: &mut I, count: usize) -> Option<
         (λ asked. (bytes : List ℕ) × Consumes (I.left reader.old) (I.left reader.new) bytes × (length bytes ≡ count) × IsHeldOf (Submit bytes) asked) }
 {
     let mut held = Vec::with_capacity(alloc, count).ok();
-    let mut room = [0; PIECE];
+    let mut room = [0; PIECE_BYTES];
     let mut left = count;
     while left > 0 {
-        let got = match reader.take(&mut room[..left.min(PIECE)]) {
+        let got = match reader.take(&mut room[..left.min(PIECE_BYTES)]) {
             Ok(0) | Err(_) => return None,
             Ok(got) => got,
         };

@@ -2,10 +2,10 @@ ghost use Rattle.std.specs.Prelude.{◌≡◌, ◌≤◌, ◌<◌, ◌+◌, ◌+
 ghost use Rattle.streams.specs.Sent.{IsSent, IsCutSomewhere};
 ghost use Rattle.administration.specs.Keeping.{accepted_results, results_of};
 ghost use Rattle.administration.specs.Serving.{lines_of};
-ghost use Rattle.administration.specs.declared.group.TheConstants.{GROUP};
+ghost use Rattle.administration.specs.declared.group.TheConstants.{MAX_GROUP};
 
 use crate::done::{Done, send_line};
-use crate::group::GROUP;
+use crate::group::MAX_GROUP;
 use batches::BatchError;
 use std::marker::Model;
 use streams::{PutFailed, Sink};
@@ -34,20 +34,20 @@ fn accepted_result(sequence: Option<u64>, left: usize) -> Done
 // The results of batches that were submitted together.
 #[derive(Drop)]
 pub(crate) struct Results {
-    room: [Done; GROUP],
+    room: [Done; MAX_GROUP],
     count: usize,
 }
 
 impl Model for Results {
     ghost use Rattle.std.specs.Prelude.{List, ◌≤◌, take};
     ghost use Rattle.administration.specs.declared.done.Done.{Done};
-    ghost use Rattle.administration.specs.declared.group.TheConstants.{GROUP};
+    ghost use Rattle.administration.specs.declared.group.TheConstants.{MAX_GROUP};
 
     ghost Value = { List Done };
 
     ghost view = { λ r. take r.count r.room };
 
-    ghost invariant = { λ r. r.count ≤ GROUP };
+    ghost invariant = { λ r. r.count ≤ MAX_GROUP };
 }
 
 impl Results {
@@ -56,7 +56,7 @@ impl Results {
         ensures { result ≡ [] }
     {
         Results {
-            room: [Done::Idle; GROUP],
+            room: [Done::Idle; MAX_GROUP],
             count: 0,
         }
     }
@@ -70,7 +70,7 @@ impl Results {
 
     // Adds one.
     pub(crate) fn push(&mut self, done: Done)
-        requires { length self.old < GROUP }
+        requires { length self.old < MAX_GROUP }
         ensures { self.new ≡ self.old ++ done ∷ [] }
     {
         self.room[self.count] = done;
@@ -79,7 +79,7 @@ impl Results {
 
     // Adds the results of batches that were accepted together.
     fn add_accepted(&mut self, sequence: Option<u64>, count: usize)
-        requires { length self.old + count ≤ GROUP }
+        requires { length self.old + count ≤ MAX_GROUP }
         ensures { self.new ≡ self.old ++ accepted_results sequence count }
     {
         for left in (0..count).rev() {
@@ -89,7 +89,7 @@ impl Results {
 
     // Adds the results of some batches.
     pub(crate) fn add(&mut self, front: Front)
-        requires { length self.old + length (results_of front) ≤ GROUP }
+        requires { length self.old + length (results_of front) ≤ MAX_GROUP }
         ensures { self.new ≡ self.old ++ results_of front }
     {
         self.add_accepted(front.sequence, front.accepted);

@@ -1,12 +1,11 @@
 -- What a poller reports is served.
-use Rattle.std.proofs.Common.{ℕ, List, Option, slice_index_or}
+use Rattle.std.proofs.Common.{ℕ, List, slice_index_or}
 use Rattle.eventloop.specs.Working.{EventsServe}
 use Rattle.httpedge.specs.Exchange.{Said}
 use Rattle.turns.proofs.Runs.{turns-stay}
-use Rattle.turns.specs.declared.outcomes.ReadOutcome.{ReadOutcome}
-use Rattle.turns.specs.declared.outcomes.WriteOutcome.{WriteOutcome}
+use Rattle.turns.specs.declared.transport.Transport.{Ghosts as Transport}
 
-module _ {A T : Type 0} (answers : A → List ℕ → Said → A → Type 0) (delivered accepted : T → Option (List ℕ)) (reads : T → ReadOutcome → T → Type 0) (writes : T → WriteOutcome → T → Type 0) (shuts : T → T → Type 0) where
-  pub events-serve : EventsServe answers delivered accepted reads writes shuts
+module _ {A T : Type 0} (answers : A → List ℕ → Said → A → Type 0) (known : Transport T) where
+  pub events-serve : EventsServe answers known
   events-serve slots before table last asker asks steps turns runs k d less within =
-      turns-stay answers delivered accepted reads writes shuts table last asker asks steps runs (slice_index_or slots k d) (turns k d less within)
+      turns-stay answers known table last asker asks steps runs (slice_index_or slots k d) (turns k d less within)

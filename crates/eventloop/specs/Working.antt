@@ -1,14 +1,12 @@
 -- What a worker does with its connections (docs/WMS.md, "HTTP").
 use Rattle.std.specs.List.{All}
-use Rattle.std.specs.Prelude.{◌≡◌, ◌⊎◌, ◌≤◌, ◌<◌, ℕ, List, [], length, Option, None, Some, Bool, true, IfSome}
+use Rattle.std.specs.Prelude.{◌≡◌, ◌⊎◌, ◌≤◌, ◌<◌, ℕ, List, [], length, None, Some, true, IfSome}
 use Rattle.httpedge.specs.Exchange.{Said}
-use Rattle.turns.specs.declared.outcomes.ReadOutcome.{ReadOutcome}
-use Rattle.turns.specs.declared.outcomes.WriteOutcome.{WriteOutcome}
 use Rattle.turns.specs.Pressure.{IsFirst, IsWanted, NoneMay}
 use Rattle.turns.specs.Queue.{has}
-use Rattle.turns.specs.Runs.{Goes, Step, Runs, HasRun, turns_of}
+use Rattle.turns.specs.Runs.{Step, Runs, HasRun, turns_of}
 use Rattle.turns.specs.Slots.{at_slot, OthersStay}
-use Rattle.turns.specs.Table.{connections, ready_slots, waiting_slots, timeouts_of, has_room}
+use Rattle.turns.specs.Table.{Goes, connections, ready_slots, waiting_slots, timeouts_of, has_room}
 use Rattle.turns.specs.Times.{deadline}
 use Rattle.turns.specs.declared.open_connection.OpenConnection.{OpenConnection}
 use Rattle.turns.specs.declared.pressure.Pressure.{Pressure}
@@ -19,6 +17,7 @@ use Rattle.turns.specs.declared.times.Timeouts.{Timeouts}
 use Rattle.std.specs.declared.thread.PromisedHandle.{PromisedHandle}
 use Rattle.eventloop.specs.declared.worker.Worker.{Worker}
 use Rattle.eventloop.specs.declared.worker_threads.HasServed.{HasServed}
+use Rattle.turns.specs.declared.transport.Transport.{Ghosts as Transport}
 
 -- a connection was opened at this moment at a slot, or none was
 abbrev pub HasOpened : {T : Type 0} → ℕ → ℕ → ConnectionTable T → ConnectionTable T → Type 0
@@ -48,29 +47,29 @@ abbrev pub HaveTurns : {T : Type 0} → List ℕ → ConnectionTable T → Conne
 HaveTurns slots old new = All (λ slot. slot < length (connections old) → has slot (ready_slots new) ≡ true) slots
 
 -- the law of events: each slot of a table that a poller reports is served after that, or has its turn still, whatever steps are made
-abbrev pub EventsServe : {A T : Type 0} → (A → List ℕ → Said → A → Type 0) → (T → Option (List ℕ)) → (T → Option (List ℕ)) → (T → ReadOutcome → T → Type 0) → (T → WriteOutcome → T → Type 0) → (T → T → Type 0) → Type 0
-EventsServe {A} {T} answers delivered accepted reads writes shuts =
+abbrev pub EventsServe : {A T : Type 0} → (A → List ℕ → Said → A → Type 0) → Transport T → Type 0
+EventsServe {A} {T} answers known =
     (slots : List ℕ) (before table last : ConnectionTable T) (asker asks : A) (steps : List (Step T)) → HaveTurns slots before table
-    → Runs answers delivered accepted reads writes shuts table asker steps last asks
+    → Runs answers known table asker steps last asks
     → All (λ slot. slot < length (connections before) → (has slot (turns_of steps) ≡ true) ⊎ (has slot (ready_slots last) ≡ true)) slots
 
 -- a table made some steps, at least so many of which were turns
-abbrev pub HasTurned : {A T : Type 0} → (A → List ℕ → Said → A → Type 0) → (T → Option (List ℕ)) → (T → Option (List ℕ)) → (T → ReadOutcome → T → Type 0) → (T → WriteOutcome → T → Type 0) → (T → T → Type 0) → ℕ → ConnectionTable T → A → ConnectionTable T → A → Type 0
-HasTurned {A} {T} answers delivered accepted reads writes shuts count old asker new asks =
-    (steps : List (Step T)) × Runs answers delivered accepted reads writes shuts old asker steps new asks × (count ≤ length (turns_of steps))
+abbrev pub HasTurned : {A T : Type 0} → (A → List ℕ → Said → A → Type 0) → Transport T → ℕ → ConnectionTable T → A → ConnectionTable T → A → Type 0
+HasTurned {A} {T} answers known count old asker new asks =
+    (steps : List (Step T)) × Runs answers known old asker steps new asks × (count ≤ length (turns_of steps))
 
 -- so many turns were made, or all that there were
-abbrev pub HasServedSome : {A T : Type 0} → (A → List ℕ → Said → A → Type 0) → (T → Option (List ℕ)) → (T → Option (List ℕ)) → (T → ReadOutcome → T → Type 0) → (T → WriteOutcome → T → Type 0) → (T → T → Type 0) → ℕ → ConnectionTable T → A → ConnectionTable T → A → Type 0
-HasServedSome {A} {T} answers delivered accepted reads writes shuts count old asker new asks =
-    HasTurned answers delivered accepted reads writes shuts count old asker new asks
-    ⊎ ((between : ConnectionTable T) × (other : A) × HasRun answers delivered accepted reads writes shuts old asker between other × (ready_slots between ≡ []) × HasRun answers delivered accepted reads writes shuts between other new asks)
+abbrev pub HasServedSome : {A T : Type 0} → (A → List ℕ → Said → A → Type 0) → Transport T → ℕ → ConnectionTable T → A → ConnectionTable T → A → Type 0
+HasServedSome {A} {T} answers known count old asker new asks =
+    HasTurned answers known count old asker new asks
+    ⊎ ((between : ConnectionTable T) × (other : A) × HasRun answers known old asker between other × (ready_slots between ≡ []) × HasRun answers known between other new asks)
 
 -- a table had no connection, and then made some steps
-pub record HasBeen {A T : Type 0} (answers : A → List ℕ → Said → A → Type 0) (delivered accepted : T → Option (List ℕ)) (reads : T → ReadOutcome → T → Type 0) (writes : T → WriteOutcome → T → Type 0) (shuts : T → T → Type 0) (table : ConnectionTable T) (asks : A) : Type 0 where
+pub record HasBeen {A T : Type 0} (answers : A → List ℕ → Said → A → Type 0) (known : Transport T) (table : ConnectionTable T) (asks : A) : Type 0 where
   pub start : ConnectionTable T
   pub asker : A
   pub free : (slot : ℕ) → at_slot (connections start) slot ≡ None
-  pub ran : HasRun answers delivered accepted reads writes shuts start asker table asks
+  pub ran : HasRun answers known start asker table asks
 
 -- the workers of these threads began with these times
 abbrev pub BeganWith : {A T P : Type 0} → Timeouts → List (PromisedHandle (Worker A T P) (HasServed A T P)) → Type 0

@@ -9,7 +9,7 @@ use std::alloc::{AllocError, Global};
 use std::collections::VecDeque;
 
 // For how many connections there is memory from the start.
-const FIRST: usize = 16;
+const FIRST_CAPACITY: usize = 16;
 
 /// Whether a worker ends, and how.
 #[derive(Clone, Copy, Debug, PartialEq, Eq)]
@@ -40,7 +40,7 @@ impl<T> HandedOver<T> {
         ensures goes_on { IfOk result (λ handed. (handed.ending ≡ Ending.GoesOn) × (handed.is_pressed ≡ false) × (handed.is_serving ≡ false)) }
     {
         Ok(HandedOver {
-            transports: VecDeque::with_capacity(alloc, FIRST)?,
+            transports: VecDeque::with_capacity(alloc, FIRST_CAPACITY)?,
             ending: Ending::GoesOn,
             is_pressed: false,
             is_serving: false,

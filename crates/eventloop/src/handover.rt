@@ -5,7 +5,7 @@ use std::alloc::{AllocError, Global};
 use std::sync::{Mutex, Wait};
 
 /// How many connections wait for their workers at most, in all. While so many wait, no further one is accepted.
-pub const WAITING: usize = 1_024;
+pub const MAX_WAITING: usize = 1_024;
 
 /// Connections on their way to a worker, which is woken for each. Each call locks what both sides share, and makes one call of it: so they come
 /// to the worker in their order, each once.

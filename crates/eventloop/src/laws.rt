@@ -9,5 +9,5 @@ use turns::Transport;
 /// `turns::laws::runs_answer`, of one that has no turn and doesn't wait for room: its last read or its last write would have waited, and a
 /// later event hasn't been reported yet.
 pub fn events_serve<A: Asks, T: Transport>()
-    ensures { EventsServe A.answers T.delivered T.accepted T.reads T.writes T.shuts }
+    ensures { EventsServe A.answers ⟦<T as Transport>⟧ }
 {}

@@ -24,9 +24,9 @@ mod worker;
 mod worker_threads;
 
 pub use handed_over::Ending;
-pub use handover::{Handover, WAITING};
+pub use handover::{Handover, MAX_WAITING};
 pub use orders::Orders;
 pub use poller::{Poller, Wakes};
 pub use turning_away::turn_away;
-pub use worker::{EVENTS, ROOM, Worker, run};
+pub use worker::{Capacity, MAX_EVENTS, MAX_OWED_BYTES, Worker, run};
 pub use worker_threads::{HasServed, WorkerStartError, WorkerThreads, start_worker};

@@ -24,7 +24,7 @@ pub trait Poller<T> {
 
     /// Waits until a connection may go on, until it is woken, or for so long. The slots of such connections are the first in
     /// `room`, and the call returns their number; other slots may be among them. A slot is reported once for each change, so
-    /// none may be lost because room is missing: `room` has `EVENTS` slots.
+    /// none may be lost because room is missing: `room` has `MAX_EVENTS` slots.
     fn wait(&mut self, at_most: Duration, room: &mut [usize]) -> usize
         ensures count { result ≤ length room.new }
         ensures reported { reported self.old (take result room.new) self.new };

@@ -2,7 +2,7 @@ use accesslog::{Cause, EndsEarly};
 use httpedge::{Outcome, respond};
 use std::io::{self, ErrorKind, Write};
 use streams::Flagged;
-use turns::{DRAINED_BYTES, READ_BYTES, ReadOutcome, Transport, WriteOutcome};
+use turns::{MAX_DRAINED_BYTES, READ_BYTES, ReadOutcome, Transport, WriteOutcome};
 
 // A transport that is written to as long as it takes bytes at once.
 #[derive(Drop)]
@@ -27,7 +27,7 @@ impl<T: Transport> Write for AtOnce<'_, T> {
 // Reads and drops what a client has sent, as far as it is there: with unread bytes the system would drop the answer.
 fn drop_sent<T: Transport>(transport: &mut T) {
     let mut room = [0; READ_BYTES];
-    for _ in 0..DRAINED_BYTES / READ_BYTES {
+    for _ in 0..MAX_DRAINED_BYTES / READ_BYTES {
         if !matches!(transport.read(&mut room), ReadOutcome::Bytes(_)) {
             return;
         }

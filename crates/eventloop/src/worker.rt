@@ -1,10 +1,9 @@
 ghost use Rattle.std.specs.Prelude.{◌≡◌, ◌<◌, ℕ, List, length, [], None, false, IfOk, IfSome, MatchBool, MatchOption};
 ghost use Rattle.eventloop.specs.Working.{HasGivenWay, HasMadeRoom, HasOpened, HasLooked, HaveTurns, HasTurned, HasServedSome};
 ghost use Rattle.httpedge.specs.Session.{HasAsked, QueryOutcome};
-ghost use Rattle.turns.specs.Runs.{Goes, HasRun};
-ghost use Rattle.turns.specs.Queue.{joins};
+ghost use Rattle.turns.specs.Runs.{HasRun};
 ghost use Rattle.turns.specs.Slots.{at_slot, OthersStay};
-ghost use Rattle.turns.specs.Table.{connections, ready_slots, timeouts_of, room_of, KeepsWaiting};
+ghost use Rattle.turns.specs.Table.{Goes, connections, ready_slots, timeouts_of, room_of};
 ghost use Rattle.turns.specs.Times.{deadline};
 ghost use Rattle.turns.specs.declared.pressure.Pressure.TheVariants.{Slot};
 
@@ -23,17 +22,26 @@ use std::time::{Duration, Instant};
 use turns::{Closed, ConnectionTable, Next, OpenConnection, Served, Timeouts, Transport};
 
 /// While so many bytes of answers are to be sent, a worker makes no further answer.
-pub const ROOM: usize = 67_108_864;
+pub const MAX_OWED_BYTES: usize = 67_108_864;
 
 /// How many slots one wait gives, at most: each that a worker has, and its waker. So a connection without a turn has nothing to
 /// do, and may give way.
-pub const EVENTS: usize = 1_025;
+pub const MAX_EVENTS: usize = 1_025;
 
 // How many turns without a query are made until the worker looks for events again, at most.
-const TURNS: u32 = 64;
+const MAX_TURNS: u32 = 64;
 
 // How many milliseconds pass between two looks for connections whose time is over.
-const TICK: u64 = 100;
+const TIMEOUT_CHECK_MILLIS: u64 = 100;
+
+/// How many connections a worker has at most, and how long these may take.
+#[derive(Clone, Copy)]
+pub struct Capacity {
+    /// How many slots it has.
+    pub slots: usize,
+    /// How long its connections may take.
+    pub timeouts: Timeouts,
+}
 
 /// A worker: its answerer, its connections, and the poller of them.
 #[derive(Drop)]
@@ -51,29 +59,24 @@ pub struct Worker<A, T: Drop, P> {
 }
 
 impl<A: Asks, T: Transport + EndsEarly + Drop, P: Poller<T>> Worker<A, T, P> {
-    /// One with so many slots, and no connection. Its error is that memory was refused.
-    pub fn new(
-        alloc: Global,
-        asks: A,
-        poller: P,
-        places: (usize, Timeouts),
-    ) -> Result<Self, AllocError>
+    /// One with no connection. Its error is that memory was refused.
+    pub fn new(alloc: Global, asks: A, poller: P, capacity: Capacity) -> Result<Self, AllocError>
     where
         A: Drop,
         P: Drop,
-        ensures len { IfOk result (λ worker. length (connections worker.table) ≡ places.0) }
+        ensures len { IfOk result (λ worker. length (connections worker.table) ≡ capacity.slots) }
         ensures free { IfOk result (λ worker. (slot : ℕ) → at_slot (connections worker.table) slot ≡ None) }
         ensures ready { IfOk result (λ worker. ready_slots worker.table ≡ []) }
-        ensures timeouts { IfOk result (λ worker. (timeouts_of worker.table ≡ places.1) × (worker.timeouts ≡ places.1)) }
+        ensures timeouts { IfOk result (λ worker. (timeouts_of worker.table ≡ capacity.timeouts) × (worker.timeouts ≡ capacity.timeouts)) }
         ensures room { IfOk result (λ worker. room_of worker.table ≡ 67108864) }
         ensures parts { IfOk result (λ worker. (worker.asks ≡ asks) × (worker.poller ≡ poller)) }
     {
-        let (slots, timeouts) = places;
+        let Capacity { slots, timeouts } = capacity;
         Ok(Worker {
             alloc,
             asks,
             poller,
-            table: ConnectionTable::new(alloc, slots, timeouts, ROOM)?,
+            table: ConnectionTable::new(alloc, slots, timeouts, MAX_OWED_BYTES)?,
             timeouts,
             now: 0,
             looked: 0,
@@ -91,7 +94,7 @@ impl<A: Asks, T: Transport + EndsEarly + Drop, P: Poller<T>> Worker<A, T, P> {
     fn open(&mut self, slot: usize, mut transport: T)
         requires known { slot < length (connections self.old.table) }
         requires free { at_slot (connections self.old.table) slot ≡ None }
-        ensures run { HasRun A.answers T.delivered T.accepted T.reads T.writes T.shuts self.old.table self.old.asks self.new.table self.new.asks }
+        ensures run { HasRun A.answers ⟦<T as Transport>⟧ self.old.table self.old.asks self.new.table self.new.asks }
         ensures opened { HasOpened self.old.now slot self.old.table self.new.table }
         ensures now { self.new.now ≡ self.old.now }
     {
@@ -108,7 +111,7 @@ impl<A: Asks, T: Transport + EndsEarly + Drop, P: Poller<T>> Worker<A, T, P> {
     // Takes over the next connection that waits. Where no slot is free, one that isn't being answered gives way, or none is taken
     // over. Returns whether one was.
     fn take_over<R: Wait, W: Wakes>(&mut self, rt: &R, handover: &Handover<T, W>) -> bool
-        ensures run { HasRun A.answers T.delivered T.accepted T.reads T.writes T.shuts self.old.table self.old.asks self.new.table self.new.asks }
+        ensures run { HasRun A.answers ⟦<T as Transport>⟧ self.old.table self.old.asks self.new.table self.new.asks }
         ensures now { self.new.now ≡ self.old.now }
     {
         if !handover.has_waiting(rt) {
@@ -129,7 +132,7 @@ impl<A: Asks, T: Transport + EndsEarly + Drop, P: Poller<T>> Worker<A, T, P> {
 
     // Takes over those that wait, as many as there are slots for.
     fn take_over_all<R: Wait, W: Wakes>(&mut self, rt: &R, handover: &Handover<T, W>)
-        ensures run { HasRun A.answers T.delivered T.accepted T.reads T.writes T.shuts self.old.table self.old.asks self.new.table self.new.asks }
+        ensures run { HasRun A.answers ⟦<T as Transport>⟧ self.old.table self.old.asks self.new.table self.new.asks }
         ensures now { self.new.now ≡ self.old.now }
     {
         for _ in 0..self.table.len() {
@@ -141,7 +144,7 @@ impl<A: Asks, T: Transport + EndsEarly + Drop, P: Poller<T>> Worker<A, T, P> {
 
     // A connection that had a turn leaves, if it is over.
     fn leave(&mut self, served: Served)
-        ensures run { HasRun A.answers T.delivered T.accepted T.reads T.writes T.shuts self.old.table self.old.asks self.new.table self.new.asks }
+        ensures run { HasRun A.answers ⟦<T as Transport>⟧ self.old.table self.old.asks self.new.table self.new.asks }
         ensures asks { self.new.asks ≡ self.old.asks }
         ensures now { self.new.now ≡ self.old.now }
     {
@@ -153,8 +156,8 @@ impl<A: Asks, T: Transport + EndsEarly + Drop, P: Poller<T>> Worker<A, T, P> {
     // Makes a turn, if a slot has one. A connection that is over leaves. Returns whether a query may have been asked in it.
     fn serve_one(&mut self) -> Option<bool>
         ensures turn { MatchOption result
-            ((ready_slots self.old.table ≡ []) × HasRun A.answers T.delivered T.accepted T.reads T.writes T.shuts self.old.table self.old.asks self.new.table self.new.asks)
-            (λ _. HasTurned A.answers T.delivered T.accepted T.reads T.writes T.shuts 1 self.old.table self.old.asks self.new.table self.new.asks) }
+            ((ready_slots self.old.table ≡ []) × HasRun A.answers ⟦<T as Transport>⟧ self.old.table self.old.asks self.new.table self.new.asks)
+            (λ _. HasTurned A.answers ⟦<T as Transport>⟧ 1 self.old.table self.old.asks self.new.table self.new.asks) }
         ensures once { (queries : List QueryOutcome) × HasAsked A.answers self.old.asks queries self.new.asks }
         ensures unasked { MatchOption result (self.new.asks ≡ self.old.asks) (λ asked. asked ≡ false → self.new.asks ≡ self.old.asks) }
         ensures now { self.new.now ≡ self.old.now }
@@ -168,13 +171,13 @@ impl<A: Asks, T: Transport + EndsEarly + Drop, P: Poller<T>> Worker<A, T, P> {
     // been asked.
     fn serve_some(&mut self) -> bool
         ensures turns { MatchBool result
-            (HasTurned A.answers T.delivered T.accepted T.reads T.writes T.shuts 1 self.old.table self.old.asks self.new.table self.new.asks)
-            (HasServedSome A.answers T.delivered T.accepted T.reads T.writes T.shuts 64 self.old.table self.old.asks self.new.table self.new.asks) }
+            (HasTurned A.answers ⟦<T as Transport>⟧ 1 self.old.table self.old.asks self.new.table self.new.asks)
+            (HasServedSome A.answers ⟦<T as Transport>⟧ 64 self.old.table self.old.asks self.new.table self.new.asks) }
         ensures once { (queries : List QueryOutcome) × HasAsked A.answers self.old.asks queries self.new.asks }
-        ensures run { HasRun A.answers T.delivered T.accepted T.reads T.writes T.shuts self.old.table self.old.asks self.new.table self.new.asks }
+        ensures run { HasRun A.answers ⟦<T as Transport>⟧ self.old.table self.old.asks self.new.table self.new.asks }
         ensures now { self.new.now ≡ self.old.now }
     {
-        for _ in 0..TURNS {
+        for _ in 0..MAX_TURNS {
             match self.serve_one() {
                 None => return false,
                 Some(true) => return true,
@@ -187,11 +190,10 @@ impl<A: Asks, T: Transport + EndsEarly + Drop, P: Poller<T>> Worker<A, T, P> {
     // Closes the connection at a slot where its time is over. The cause is noted, unless its client had all of its
     // answers.
     fn close_overdue(&mut self, slot: usize)
-        ensures run { HasRun A.answers T.delivered T.accepted T.reads T.writes T.shuts self.old.table self.old.asks self.new.table self.new.asks }
+        ensures run { HasRun A.answers ⟦<T as Transport>⟧ self.old.table self.old.asks self.new.table self.new.asks }
         ensures in_time { IfSome (at_slot (connections self.new.table) slot) (λ connection. self.old.now < deadline (timeouts_of self.old.table) connection.phase) }
         ensures others { OthersStay slot (connections self.old.table) (connections self.new.table) }
-        ensures joins { (slots : List ℕ) × (ready_slots self.new.table ≡ joins (ready_slots self.old.table) slots) }
-        ensures keeps { KeepsWaiting self.old.table self.new.table }
+        ensures goes { Goes self.old.table self.new.table }
         ensures asks { self.new.asks ≡ self.old.asks }
         ensures now { self.new.now ≡ self.old.now }
     {
@@ -204,7 +206,7 @@ impl<A: Asks, T: Transport + EndsEarly + Drop, P: Poller<T>> Worker<A, T, P> {
 
     // Closes those whose time is over.
     fn look(&mut self)
-        ensures run { HasRun A.answers T.delivered T.accepted T.reads T.writes T.shuts self.old.table self.old.asks self.new.table self.new.asks }
+        ensures run { HasRun A.answers ⟦<T as Transport>⟧ self.old.table self.old.asks self.new.table self.new.asks }
         ensures looked { HasLooked self.old.now self.old.table self.new.table }
         ensures now { self.new.now ≡ self.old.now }
     {
@@ -215,7 +217,7 @@ impl<A: Asks, T: Transport + EndsEarly + Drop, P: Poller<T>> Worker<A, T, P> {
 
     // Where an answer waits for room, the slowest reader gives way, if one may. The next wait is short then, as others may have to.
     fn make_room(&mut self)
-        ensures run { HasRun A.answers T.delivered T.accepted T.reads T.writes T.shuts self.old.table self.old.asks self.new.table self.new.asks }
+        ensures run { HasRun A.answers ⟦<T as Transport>⟧ self.old.table self.old.asks self.new.table self.new.asks }
         ensures room { HasMadeRoom self.old.now self.old.table self.new.table }
         ensures now { self.new.now ≡ self.old.now }
     {
@@ -228,9 +230,9 @@ impl<A: Asks, T: Transport + EndsEarly + Drop, P: Poller<T>> Worker<A, T, P> {
 
     // Looks, where the last look is long enough ago.
     fn tick<R: Wait, W: Wakes>(&mut self, rt: &R, handover: &Handover<T, W>)
-        ensures run { HasRun A.answers T.delivered T.accepted T.reads T.writes T.shuts self.old.table self.old.asks self.new.table self.new.asks }
+        ensures run { HasRun A.answers ⟦<T as Transport>⟧ self.old.table self.old.asks self.new.table self.new.asks }
     {
-        if self.now.saturating_sub(self.looked) < TICK {
+        if self.now.saturating_sub(self.looked) < TIMEOUT_CHECK_MILLIS {
             return;
         }
         self.looked = self.now;
@@ -240,13 +242,13 @@ impl<A: Asks, T: Transport + EndsEarly + Drop, P: Poller<T>> Worker<A, T, P> {
 
     // Waits for events, and notes which connections may go on. It doesn't wait while a connection has a turn.
     fn wait(&mut self, room: &mut [usize])
-        ensures run { HasRun A.answers T.delivered T.accepted T.reads T.writes T.shuts self.old.table self.old.asks self.new.table self.new.asks }
+        ensures run { HasRun A.answers ⟦<T as Transport>⟧ self.old.table self.old.asks self.new.table self.new.asks }
         ensures woken { (slots : List ℕ) × P.reported self.old.poller slots self.new.poller × HaveTurns slots self.old.table self.new.table }
     {
         let at_most = if self.table.is_ready() || self.has_made_room {
             0
         } else {
-            TICK
+            TIMEOUT_CHECK_MILLIS
         };
         let count = self.poller.wait(Duration::from_millis(at_most), room);
         wake_all(&mut self.table, &room[..count]);
@@ -254,7 +256,7 @@ impl<A: Asks, T: Transport + EndsEarly + Drop, P: Poller<T>> Worker<A, T, P> {
 
     // Closes the connections that aren't being answered.
     fn close_unanswered(&mut self)
-        ensures run { HasRun A.answers T.delivered T.accepted T.reads T.writes T.shuts self.old.table self.old.asks self.new.table self.new.asks }
+        ensures run { HasRun A.answers ⟦<T as Transport>⟧ self.old.table self.old.asks self.new.table self.new.asks }
     {
         for slot in 0..self.table.len() {
             if let Some(mut connection) = self.table.close_unanswered(slot) {
@@ -265,7 +267,7 @@ impl<A: Asks, T: Transport + EndsEarly + Drop, P: Poller<T>> Worker<A, T, P> {
 
     // Obeys what it is to do now. Returns whether it ends, and how.
     fn obey(&mut self, orders: Orders) -> Ending
-        ensures run { HasRun A.answers T.delivered T.accepted T.reads T.writes T.shuts self.old.table self.old.asks self.new.table self.new.asks }
+        ensures run { HasRun A.answers ⟦<T as Transport>⟧ self.old.table self.old.asks self.new.table self.new.asks }
         ensures pressed { MatchBool orders.is_pressed (HasGivenWay (Slot self.old.now) self.old.table self.new.table) (self.new.table ≡ self.old.table) }
         ensures ending { result ≡ orders.ending }
     {
@@ -278,7 +280,7 @@ impl<A: Asks, T: Transport + EndsEarly + Drop, P: Poller<T>> Worker<A, T, P> {
 
     // Whether it has ended, in this way.
     fn has_ended(&mut self, ending: Ending) -> bool
-        ensures run { HasRun A.answers T.delivered T.accepted T.reads T.writes T.shuts self.old.table self.old.asks self.new.table self.new.asks }
+        ensures run { HasRun A.answers ⟦<T as Transport>⟧ self.old.table self.old.asks self.new.table self.new.asks }
     {
         match ending {
             Ending::GoesOn => return false,
@@ -305,7 +307,7 @@ impl<A: Asks, T: Transport + EndsEarly + Drop, P: Poller<T>> Worker<A, T, P> {
         start: Instant,
         room: &mut [usize],
     ) -> bool
-        ensures run { HasRun A.answers T.delivered T.accepted T.reads T.writes T.shuts self.old.table self.old.asks self.new.table self.new.asks }
+        ensures run { HasRun A.answers ⟦<T as Transport>⟧ self.old.table self.old.asks self.new.table self.new.asks }
     {
         self.wait(room);
         self.note_time(start.elapsed(rt).ok());
@@ -348,12 +350,12 @@ where
     T: Transport + EndsEarly + Drop,
     P: Poller<T> + Drop,
     W: Wakes,
-    ensures run { HasRun A.answers T.delivered T.accepted T.reads T.writes T.shuts worker.table worker.asks result.table result.asks }
+    ensures run { HasRun A.answers ⟦<T as Transport>⟧ worker.table worker.asks result.table result.asks }
 {
     let Ok(start) = Instant::now(rt) else {
         return worker;
     };
-    let mut room = [0; EVENTS];
+    let mut room = [0; MAX_EVENTS];
     for _ in rt.forever() {
         if worker.round(rt, handover, start, &mut room) {
             return worker;

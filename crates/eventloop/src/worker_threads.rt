@@ -6,7 +6,7 @@ ghost use Rattle.turns.specs.Table.{connections, timeouts_of};
 ghost use Rattle.turns.specs.declared.times.Timeouts.{Timeouts};
 
 use crate::handed_over::Ending;
-use crate::handover::{Handover, WAITING};
+use crate::handover::{Handover, MAX_WAITING};
 use crate::poller::{Poller, Wakes};
 use crate::turning_away::turn_away;
 use crate::worker::{Worker, run};
@@ -33,7 +33,7 @@ pub struct HasServed<A, T: Drop, P> {
 }
 
 impl<A: Asks, T: Transport + Drop, P> Promise<Worker<A, T, P>> for HasServed<A, T, P> {
-    ghost kept_by = { λ promise left. HasBeen A.answers T.delivered T.accepted T.reads T.writes T.shuts left.table left.asks × (timeouts_of left.table ≡ timeouts_of promise.begun.value.table) };
+    ghost kept_by = { λ promise left. HasBeen A.answers ⟦<T as Transport>⟧ left.table left.asks × (timeouts_of left.table ≡ timeouts_of promise.begun.value.table) };
 }
 
 /// Workers that were started, to which connections are handed over in turn.
@@ -98,13 +98,13 @@ impl<A: Asks + Drop, T: Transport + EndsEarly + Drop, P: Drop, W: Wakes + Drop> 
         }
     }
 
-    /// Whether a further connection may be accepted: fewer than `WAITING` wait for their workers.
+    /// Whether a further connection may be accepted: fewer than `MAX_WAITING` wait for their workers.
     pub fn has_place<R: Wait>(&self, rt: &R) -> bool {
         let mut waiting = 0_usize;
         for handover in &self.handovers {
             waiting = waiting.saturating_add(handover.waiting(rt));
         }
-        waiting < WAITING
+        waiting < MAX_WAITING
     }
 
     /// Whether a worker has connections.
@@ -119,7 +119,7 @@ impl<A: Asks + Drop, T: Transport + EndsEarly + Drop, P: Drop, W: Wakes + Drop> 
 
     /// Has each worker end, in one way or the other, waits until it has, and gives all back, if there is memory for them.
     pub fn end<R: Wait + Threads>(self, rt: &R, ending: Ending) -> Option<Vec<Worker<A, T, P>>>
-        ensures served { IfSome result (λ workers. All (λ worker. HasBeen A.answers T.delivered T.accepted T.reads T.writes T.shuts worker.table worker.asks) workers.items) }
+        ensures served { IfSome result (λ workers. All (λ worker. HasBeen A.answers ⟦<T as Transport>⟧ worker.table worker.asks) workers.items) }
         ensures times { (times : Timeouts) → BeganWith times self.threads.items → IfSome result (λ workers. All (λ worker. timeouts_of worker.table ≡ times) workers.items) }
     {
         let WorkerThreads {
@@ -161,7 +161,7 @@ where
     T: Transport + EndsEarly + Drop,
     P: Poller<T> + Drop,
     W: Wakes,
-    ensures been { HasBeen A.answers T.delivered T.accepted T.reads T.writes T.shuts result.table result.asks }
+    ensures been { HasBeen A.answers ⟦<T as Transport>⟧ result.table result.asks }
     ensures times { timeouts_of result.table ≡ timeouts_of fresh.worker.table }
 {
     let Fresh { worker } = fresh;

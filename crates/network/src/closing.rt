@@ -5,10 +5,10 @@ use httpedge::EdgeFault;
 use streams::Source;
 
 /// How many bytes of a client are read and dropped after its answer, at most.
-pub const DRAINED: usize = 1_048_576;
+pub const MAX_DRAINED_BYTES: usize = 1_048_576;
 
 // How many bytes are read at once, at most.
-const PIECE: usize = 65_536;
+const PIECE_BYTES: usize = 65_536;
 
 /// The sending side of a connection, which can be closed without the other side.
 pub trait Closing {
@@ -26,10 +26,10 @@ pub trait Closing {
 pub fn drain<R: Source>(reader: &mut R)
     ensures { HasDrained (R.left reader.old) (R.left reader.new) (R.take_failed reader.new) }
 {
-    let mut room = [0; PIECE];
-    let mut left = DRAINED;
+    let mut room = [0; PIECE_BYTES];
+    let mut left = MAX_DRAINED_BYTES;
     while left > 0 {
-        match reader.take(&mut room[..left.min(PIECE)]) {
+        match reader.take(&mut room[..left.min(PIECE_BYTES)]) {
             Ok(0) => return,
             Ok(count) => left -= count,
             Err(_) => return,

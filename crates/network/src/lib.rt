@@ -29,11 +29,11 @@ mod timed;
 pub use accepting::Accepting;
 pub use acceptor::{Acceptor, Plan, Press};
 pub use announcing::Addresses;
-pub use closing::{Closing, DRAINED, drain, hang_up};
+pub use closing::{Closing, MAX_DRAINED_BYTES, drain, hang_up};
 pub use limits::{
-    ADMINISTRATION_SECONDS, ANSWER_TIMES, CALL_SECONDS, CONNECTIONS, DRAIN_SECONDS,
-    FAILURE_MILLISECONDS, FULL_MILLISECONDS, RATE, SILENT_SECONDS, TimeLimit, Waits, slots_of,
-    timeouts_of,
+    ADMINISTRATION_SECONDS, ANSWER_TIMES, CALL_SECONDS, DRAIN_SECONDS, FAILURE_MILLISECONDS,
+    FULL_MILLISECONDS, MAX_CONNECTIONS, MIN_BYTES_PER_MILLI, SILENT_SECONDS, TimeLimit, Waits,
+    slots_of, timeouts_of,
 };
 pub use logging::{Log, LoggedPoller, Logs, start_log};
 pub use opening::{NothingLeft, Opens, Sides};

@@ -19,10 +19,10 @@ pub const CALL_SECONDS: u64 = 1;
 pub const DRAIN_SECONDS: u64 = 2;
 
 /// How many connections of clients are open at once, at most, over all workers.
-pub const CONNECTIONS: usize = 1_024;
+pub const MAX_CONNECTIONS: usize = 1_024;
 
 /// The least rate at which a client takes an answer, once the time of a head has passed, in bytes per millisecond.
-pub const RATE: u64 = 16;
+pub const MIN_BYTES_PER_MILLI: u64 = 16;
 
 /// How many milliseconds the service waits after a call for a connection has failed.
 pub const FAILURE_MILLISECONDS: u64 = 10;
@@ -32,7 +32,7 @@ pub const FULL_MILLISECONDS: u64 = 5;
 
 /// How many bytes of an answer a client may have to take before the system takes a further one: half of those that Linux keeps for a
 /// connection, by its default. At the least rate they take 131 seconds.
-pub const AHEAD: u64 = 2_097_152;
+pub const MAX_AHEAD_BYTES: u64 = 2_097_152;
 
 /// How many seconds a command of an administrator may take.
 pub const ADMINISTRATION_SECONDS: u64 = 600;
@@ -52,9 +52,9 @@ pub fn timeouts_of(service: Service) -> Timeouts
         idle: u64::from(service.idle),
         timeout,
         grace: timeout,
-        rate: RATE,
+        rate: MIN_BYTES_PER_MILLI,
         drain: 1_000 * DRAIN_SECONDS,
-        ahead: AHEAD,
+        ahead: MAX_AHEAD_BYTES,
     }
 }
 
@@ -62,7 +62,7 @@ pub fn timeouts_of(service: Service) -> Timeouts
 pub fn slots_of(service: Service) -> usize
     ensures { result ≡ 1024 / max service.workers 1 }
 {
-    CONNECTIONS / usize::from(service.workers.max(1))
+    MAX_CONNECTIONS / usize::from(service.workers.max(1))
 }
 
 /// How long the calls of a connection may wait, where its reads and writes wait, as an administrator's do.

@@ -15,7 +15,7 @@ use std::thread::{self, JoinHandle};
 use std::time::Duration;
 
 // How many milliseconds the thread of the log waits for a line, and the end of the log for that thread.
-const PAUSE: u64 = 20;
+const PAUSE_MILLIS: u64 = 20;
 
 // How often the end of the log waits: two seconds in all.
 const END_TRIES: u32 = 100;
@@ -65,7 +65,7 @@ fn write_log<R: Runtime>(rt: &R, queue: &LogQueue<R>, is_written: &AtomicBool) {
             is_written.store(true, Ordering::SeqCst);
             return;
         }
-        thread::sleep(rt, Duration::from_millis(PAUSE));
+        thread::sleep(rt, Duration::from_millis(PAUSE_MILLIS));
     }
     unreachable!()
 }
@@ -137,7 +137,7 @@ impl<R: Runtime> Log<R> {
                 thread.join(rt);
                 return;
             }
-            thread::sleep(rt, Duration::from_millis(PAUSE));
+            thread::sleep(rt, Duration::from_millis(PAUSE_MILLIS));
         }
         drop(thread);
     }

@@ -1,5 +1,5 @@
 use crate::socket_transport::SocketTransport;
-use eventloop::{EVENTS, Poller, Wakes};
+use eventloop::{MAX_EVENTS, Poller, Wakes};
 use mio::{Events, Interest, Poll, Token, Waker};
 use std::alloc::Global;
 use std::io;
@@ -33,7 +33,7 @@ impl SocketPoller {
     pub fn new(rt: &HostRuntime) -> io::Result<Self> {
         Ok(SocketPoller {
             poll: Poll::new(rt)?,
-            events: Events::with_capacity(rt.alloc(), EVENTS)?,
+            events: Events::with_capacity(rt.alloc(), MAX_EVENTS)?,
         })
     }
 }

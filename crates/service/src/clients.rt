@@ -11,7 +11,7 @@ ghost use Rattle.turns.specs.declared.times.Timeouts.{Timeouts as Times};
 use accesslog::{EndsEarly, LogQueue, LoggedTransport};
 use commandline::Service;
 use console::Failure;
-use eventloop::{Ending, Poller, Wakes, Worker, WorkerThreads, start_worker};
+use eventloop::{Capacity, Ending, Poller, Wakes, Worker, WorkerThreads, start_worker};
 use httpedge::Asks;
 use mapshare::{Reader, Sharing};
 use network::{
@@ -21,14 +21,7 @@ use network::{
 use std::sync::atomic::{AtomicBool, Ordering};
 use std::thread;
 use std::time::Duration;
-use turns::{Timeouts, Transport};
-
-// How many connections a worker has at most, and how long these may take.
-#[derive(Clone, Copy)]
-struct Limits {
-    slots: usize,
-    times: Timeouts,
-}
+use turns::Transport;
 
 // The readers of the map, one for each worker, and the workers' pollers.
 #[derive(Drop)]
@@ -49,7 +42,7 @@ fn start_one<S, R, T, Q>(
     rt: &R,
     workers: &mut WorkerThreads<Reader<S>, LoggedTransport<T, R>, LoggedPoller<Q>, Q::Waker>,
     seat: Seat<S, Q>,
-    limits: Limits,
+    capacity: Capacity,
 ) -> Result<(), Failure>
 where
     S: Sharing + Send + Sync + 'static,
@@ -57,12 +50,11 @@ where
     T: Transport + Send + Drop + 'static,
     Q: Poller<T> + Send + Drop + 'static,
     ensures failed { IfErr result (λ failure. is_service_failure failure ≡ true) }
-    ensures began { BeganWith limits.times workers.old.threads.items → BeganWith limits.times workers.new.threads.items }
+    ensures began { BeganWith capacity.timeouts workers.old.threads.items → BeganWith capacity.timeouts workers.new.threads.items }
 {
     let Seat { reader, poller } = seat;
     let poller = LoggedPoller { inner: poller };
-    let places = (limits.slots, limits.times);
-    let Ok(worker) = Worker::new(rt.alloc(), reader, poller, places) else {
+    let Ok(worker) = Worker::new(rt.alloc(), reader, poller, capacity) else {
         return Err(Failure::NoMemory);
     };
     match start_worker(rt, rt.alloc(), workers, worker) {
@@ -76,7 +68,7 @@ fn start_all<S, R, T, Q>(
     rt: &R,
     workers: &mut WorkerThreads<Reader<S>, LoggedTransport<T, R>, LoggedPoller<Q>, Q::Waker>,
     seats: Seats<S, Q>,
-    limits: Limits,
+    capacity: Capacity,
 ) -> Result<(), Failure>
 where
     S: Sharing + Send + Sync + 'static,
@@ -84,7 +76,7 @@ where
     T: Transport + Send + Drop + 'static,
     Q: Poller<T> + Send + Drop + 'static,
     ensures failed { IfErr result (λ failure. is_service_failure failure ≡ true) }
-    ensures began { BeganWith limits.times workers.old.threads.items → BeganWith limits.times workers.new.threads.items }
+    ensures began { BeganWith capacity.timeouts workers.old.threads.items → BeganWith capacity.timeouts workers.new.threads.items }
 {
     let Seats {
         readers,
@@ -94,7 +86,7 @@ where
         let Some(poller) = pollers.pop() else {
             return Err(Failure::SocketFailed);
         };
-        start_one::<S, R, T, Q>(rt, workers, Seat { reader, poller }, limits)?;
+        start_one::<S, R, T, Q>(rt, workers, Seat { reader, poller }, capacity)?;
     }
     Ok(())
 }
@@ -244,9 +236,9 @@ where
     ensures failed { IfErr result (λ failure. is_service_failure failure ≡ true) }
     ensures began { IfOk result (λ workers. (times : Times) × IsTimed service times × BeganWith times workers.threads.items) }
 {
-    let limits = Limits {
+    let capacity = Capacity {
         slots: slots_of(service),
-        times: timeouts_of(service),
+        timeouts: timeouts_of(service),
     };
     let Ok(mut workers) = WorkerThreads::<
         Reader<S>,
@@ -256,7 +248,7 @@ where
     >::new(rt.alloc(), seats.readers.len()) else {
         return Err(Failure::NoMemory);
     };
-    match start_all::<S, R, T, Q>(rt, &mut workers, seats, limits) {
+    match start_all::<S, R, T, Q>(rt, &mut workers, seats, capacity) {
         Ok(()) => Ok(workers),
         Err(failure) => {
             let _ = workers.end(rt, Ending::Stops);
@@ -303,9 +295,8 @@ where
     P: Port<C> + Drop,
     Q: Poller<T> + Send + Drop + 'static,
     ensures ends { GoesOnAfter (Ok tt) result.0 }
-    ensures answered { IfSome result.1 (λ workers. All (λ worker. HasBeen (reader_answers S.opening) (λ t. T.delivered t.inner) (λ t. T.accepted t.inner)
-        (λ old outcome new. T.reads old.inner outcome new.inner) (λ old outcome new. T.writes old.inner outcome new.inner)
-        (λ old new. T.shuts old.inner new.inner) worker.table worker.asks) workers.items) }
+    ensures answered { IfSome result.1 (λ workers. All (λ worker. HasBeen (reader_answers S.opening) ⟦<LoggedTransport<T, R> as Transport>⟧
+        worker.table worker.asks) workers.items) }
     ensures timed { IfSome result.1 (λ workers. All (λ worker. IsTimed side.service (times_of worker.table)) workers.items) }
 {
     let ClientFlags {

@@ -12,6 +12,7 @@
 mod administering;
 mod clients;
 mod served;
+mod starting;
 mod threaded;
 
 pub use served::Served;

@@ -2,7 +2,10 @@
 
 use crate::clients::{Client, NoWaker, TIMEOUTS};
 use crate::fakes::{Notes, Noting, Reporting};
-use eventloop::{EVENTS, Ending, ROOM, WAITING, Worker, WorkerThreads, start_worker, turn_away};
+use eventloop::{
+    Capacity, Ending, MAX_EVENTS, MAX_OWED_BYTES, MAX_WAITING, Worker, WorkerThreads, start_worker,
+    turn_away,
+};
 use std::alloc::{AllocError, Global};
 use std::rt::Clock;
 use std::str;
@@ -39,7 +42,15 @@ fn three_workers<R: AllocGlobal + Clock + Wait + Threads + Send + Copy + Drop + 
             alloc,
             queries: Arc::try_clone(&queries)?,
         };
-        let worker = Worker::new(alloc, noting, unreported(system), (4, TIMEOUTS))?;
+        let worker = Worker::new(
+            alloc,
+            noting,
+            unreported(system),
+            Capacity {
+                slots: 4,
+                timeouts: TIMEOUTS,
+            },
+        )?;
         start_worker(rt, alloc, &mut workers, worker)?;
         all.push(queries)?;
     }
@@ -100,9 +111,9 @@ fn a_client_is_turned_away_as_far_as_it_takes_that_at_once(rt: HostRuntime) -> R
 
 #[test]
 fn limits_are_these(rt: HostRuntime) -> Result<(), Fail> {
-    assert!(rt; ROOM == 67_108_864);
+    assert!(rt; MAX_OWED_BYTES == 67_108_864);
     // one for each of 1,024 slots, and the waker
-    assert!(rt; EVENTS == 1_025);
-    assert!(rt; WAITING == 1_024);
+    assert!(rt; MAX_EVENTS == 1_025);
+    assert!(rt; MAX_WAITING == 1_024);
     Ok(())
 }

@@ -2,7 +2,7 @@
 
 use crate::clients::Client;
 use crate::fakes::{Noting, Reporting, Watched};
-use eventloop::{Ending, Worker, WorkerThreads, start_worker};
+use eventloop::{Capacity, Ending, Worker, WorkerThreads, start_worker};
 use std::rt::Clock;
 use std::str;
 use std::sync::{Arc, Mutex, Wait};
@@ -43,7 +43,15 @@ fn asked_of<R: AllocGlobal + Clock + Wait + Threads + Send + Copy + Drop + 'stat
         rt: *system,
         slots: 2,
     };
-    let worker = Worker::new(alloc, asks, poller, (slots, TIMEOUTS))?;
+    let worker = Worker::new(
+        alloc,
+        asks,
+        poller,
+        Capacity {
+            slots,
+            timeouts: TIMEOUTS,
+        },
+    )?;
     start_worker(rt, alloc, &mut workers, worker)?;
     for (sends, after) in clients {
         let client = Watched {

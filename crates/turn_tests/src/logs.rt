@@ -3,9 +3,9 @@
 use crate::clients::{Client, Echo, TIMEOUTS};
 use crate::fakes::Reporting;
 use accesslog::{
-    Cause, EndsEarly, LINES, LogQueue, LoggedTransport, Record, command_line, end_line,
+    Cause, EndsEarly, LogQueue, LoggedTransport, MAX_LINES, Record, command_line, end_line,
 };
-use eventloop::{Ending, Worker, WorkerThreads, start_worker};
+use eventloop::{Capacity, Ending, Worker, WorkerThreads, start_worker};
 use std::alloc::{AllocError, Global};
 use std::rt::Clock;
 use std::str;
@@ -129,11 +129,11 @@ fn kept_of_many<R: AllocGlobal + Clock + Wait + Copy + Drop>(
     let Some(queue) = LogQueue::new(rt, alloc) else {
         return Ok((text, 0));
     };
-    for _ in 0..LINES + 2 {
+    for _ in 0..MAX_LINES + 2 {
         queue.put(Some(Vec::from_slice(alloc, b"x\n")?));
     }
     add(&mut text, queue.take(alloc))?;
-    for count in 0..LINES + 9 {
+    for count in 0..MAX_LINES + 9 {
         if queue.take(alloc).is_none() {
             return Ok((text, count));
         }
@@ -187,7 +187,7 @@ fn logged_of<R: AllocGlobal + Clock + Wait + Threads + Send + Copy + Drop + 'sta
         rt: *system,
         slots: 0,
     };
-    let worker = Worker::new(alloc, asks, poller, (1, timeouts))?;
+    let worker = Worker::new(alloc, asks, poller, Capacity { slots: 1, timeouts })?;
     start_worker(rt, alloc, &mut workers, worker)?;
     let logged = LoggedTransport::new(alloc, client, 9, queue.share().ok());
     workers.hand_over(rt, logged);

@@ -2,7 +2,7 @@
 
 use crate::clients::{Client, Echo, TIMEOUTS};
 use crate::fakes::{Notes, Reporting, Watched};
-use eventloop::{Ending, Worker, WorkerThreads, start_worker};
+use eventloop::{Capacity, Ending, Worker, WorkerThreads, start_worker};
 use std::rt::Clock;
 use std::sync::{Arc, Mutex, Wait};
 use std::test::Fail;
@@ -48,7 +48,15 @@ fn taken_of<R: AllocGlobal + Clock + Wait + Threads + Send + Copy + Drop + 'stat
         rt: *system,
         slots: 1,
     };
-    let worker = Worker::new(alloc, asks, poller, (1, TIMEOUTS))?;
+    let worker = Worker::new(
+        alloc,
+        asks,
+        poller,
+        Capacity {
+            slots: 1,
+            timeouts: TIMEOUTS,
+        },
+    )?;
     start_worker(rt, alloc, &mut workers, worker)?;
     workers.hand_over(rt, client);
     wait_for_bytes(rt, system, &taken);

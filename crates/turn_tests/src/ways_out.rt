@@ -1,7 +1,7 @@
 use crate::clients::{Client, Echo, TIMEOUTS, enter, serve_all};
 use std::alloc::Global;
 use std::test::Fail;
-use turns::{Closed, ConnectionTable, DRAINED_BYTES, Next, PATIENCE, READ_BYTES};
+use turns::{Closed, ConnectionTable, MAX_DRAINED_BYTES, Next, PATIENCE_MILLIS, READ_BYTES};
 
 const HEAD: &[u8] = b"GET /?a HTTP/1.1\r\n\r\n";
 
@@ -12,9 +12,9 @@ fn slot_of(closed: Option<Closed<Client>>) -> Option<usize> {
 
 #[test]
 fn limits_are_these(rt: HostRuntime) -> Result<(), Fail> {
-    assert!(rt; DRAINED_BYTES == 1_048_576);
+    assert!(rt; MAX_DRAINED_BYTES == 1_048_576);
     assert!(rt; READ_BYTES == 4_096);
-    assert!(rt; PATIENCE == 1_000);
+    assert!(rt; PATIENCE_MILLIS == 1_000);
     Ok(())
 }
 

@@ -1,5 +1,5 @@
 -- How a connection goes on by a turn (docs/WMS.md, "HTTP").
-use Rattle.std.specs.Prelude.{◌≡◌, ◌≢◌, ◌⊎◌, ℕ, List, [], ◌++◌, length, Option, Bool, true, false}
+use Rattle.std.specs.Prelude.{◌≡◌, ◌≢◌, ◌⊎◌, ℕ, List, [], ◌++◌, length, Bool, true, false}
 use Rattle.std.specs.Io.KnownBytes.{Appends}
 use Rattle.httpedge.specs.Exchange.{Said}
 use Rattle.httpedge.specs.Session.{QueryOutcome, HasAsked, HasRespondedWith, is_done, wants}
@@ -11,6 +11,7 @@ use Rattle.turns.specs.declared.outcomes.WriteOutcome.{WriteOutcome}
 use Rattle.turns.specs.declared.outcomes.WriteOutcome.TheVariants as write
 use Rattle.turns.specs.declared.turn.Next.{Next}
 use Rattle.turns.specs.declared.turn.Next.TheVariants.{Turn, Readable, Writable, Room, Done, Failed}
+use Rattle.turns.specs.declared.transport.Transport.{Ghosts as Transport}
 
 -- the bytes `read` came, and all but those in the buffer were taken; these queries of theirs were answered, and `written` was sent. `written` and the
 -- bytes that are to be sent answer the bytes that were taken
@@ -27,33 +28,33 @@ abbrev pub WritesOnce : {T : Type 0} → (T → WriteOutcome → T → Type 0) �
 WritesOnce writes before after = (after ≡ before) ⊎ ((outcome : WriteOutcome) × writes before outcome after)
 
 -- all calls on a connection: at most one read, and then at most one write
-abbrev pub Calls : {T : Type 0} → (T → ReadOutcome → T → Type 0) → (T → WriteOutcome → T → Type 0) → T → T → Type 0
-Calls {T} reads writes before after = (between : T) × ReadsOnce reads before between × WritesOnce writes between after
+abbrev pub Calls : {T : Type 0} → Transport T → T → T → Type 0
+Calls {T} known before after = (between : T) × ReadsOnce known.reads before between × WritesOnce known.writes between after
 
 -- a connection went on: some bytes of its client came, at most one query of it was answered, and so many bytes were sent to it
-pub record Advances {A T : Type 0} (answers : A → List ℕ → Said → A → Type 0) (delivered accepted : T → Option (List ℕ)) (old : BufferedSession) (before : T) (asker : A) (new : BufferedSession) (after : T) (asks : A) (sent : ℕ) : Type 0 where
+pub record Advances {A T : Type 0} (answers : A → List ℕ → Said → A → Type 0) (known : Transport T) (old : BufferedSession) (before : T) (asker : A) (new : BufferedSession) (after : T) (asks : A) (sent : ℕ) : Type 0 where
   pub came : List ℕ
   pub went : List ℕ
   pub queries : List QueryOutcome
-  pub reads : Appends (delivered before) (delivered after) came
-  pub writes : Appends (accepted before) (accepted after) went
+  pub reads : Appends (known.delivered before) (known.delivered after) came
+  pub writes : Appends (known.accepted before) (known.accepted after) went
   pub count : length went ≡ sent
   pub says : HasAsked answers asker queries asks
   pub keeps : (read written : List ℕ) (earlier : List QueryOutcome) → HasServed read earlier written old → HasServed (read ++ came) (earlier ++ queries) (written ++ went) new
 
 -- so many bytes were sent, and none came
-pub record Sends {T : Type 0} (delivered accepted : T → Option (List ℕ)) (old : BufferedSession) (before : T) (new : BufferedSession) (after : T) (sent : ℕ) : Type 0 where
+pub record Sends {T : Type 0} (known : Transport T) (old : BufferedSession) (before : T) (new : BufferedSession) (after : T) (sent : ℕ) : Type 0 where
   pub went : List ℕ
-  pub reads : Appends (delivered before) (delivered after) []
-  pub writes : Appends (accepted before) (accepted after) went
+  pub reads : Appends (known.delivered before) (known.delivered after) []
+  pub writes : Appends (known.accepted before) (known.accepted after) went
   pub count : length went ≡ sent
   pub keeps : (read written : List ℕ) (queries : List QueryOutcome) → HasServed read queries written old → HasServed read queries (written ++ went) new
 
 -- some bytes came, and none were sent
-pub record Receives {T : Type 0} (delivered accepted : T → Option (List ℕ)) (old : BufferedSession) (before : T) (new : BufferedSession) (after : T) : Type 0 where
+pub record Receives {T : Type 0} (known : Transport T) (old : BufferedSession) (before : T) (new : BufferedSession) (after : T) : Type 0 where
   pub came : List ℕ
-  pub reads : Appends (delivered before) (delivered after) came
-  pub writes : Appends (accepted before) (accepted after) []
+  pub reads : Appends (known.delivered before) (known.delivered after) came
+  pub writes : Appends (known.accepted before) (known.accepted after) []
   pub keeps : (read written : List ℕ) (queries : List QueryOutcome) → HasServed read queries written old → HasServed (read ++ came) queries written new
 
 -- bytes of the client were taken: all that were in the buffer, or that a read brought
@@ -66,10 +67,10 @@ HasCome {T} reads exchange after = (exchange.buffer ≢ []) ⊎ ((before : T) ×
 
 -- why a connection has no further turn: it wants bytes, none is left, and the last read would have waited; bytes are to be sent to it, and the last
 -- write would have waited; it has bytes or the end of its client's, but no query may be answered; all was sent; or the last call failed
-abbrev pub IsNext : {T : Type 0} → (T → ReadOutcome → T → Type 0) → (T → WriteOutcome → T → Type 0) → Bool → Next → BufferedSession → T → Type 0
-IsNext reads writes may_ask Turn exchange after = Unit {0}
-IsNext {T} reads writes may_ask Readable exchange after = (before : T) × reads before read.WouldBlock after × (wants exchange.session ≡ true) × (exchange.buffer ≡ [])
-IsNext {T} reads writes may_ask Writable exchange after = (before : T) × writes before write.WouldBlock after × (exchange.session.outgoing ≢ [])
-IsNext reads writes may_ask Room exchange after = (may_ask ≡ false) × (wants exchange.session ≡ true) × HasCome reads exchange after
-IsNext reads writes may_ask Done exchange after = is_done exchange.session ≡ true
-IsNext {T} reads writes may_ask Failed exchange after = (before : T) × (reads before read.Failed after ⊎ writes before write.Failed after)
+abbrev pub IsNext : {T : Type 0} → Transport T → Bool → Next → BufferedSession → T → Type 0
+IsNext known may_ask Turn exchange after = Unit {0}
+IsNext {T} known may_ask Readable exchange after = (before : T) × known.reads before read.WouldBlock after × (wants exchange.session ≡ true) × (exchange.buffer ≡ [])
+IsNext {T} known may_ask Writable exchange after = (before : T) × known.writes before write.WouldBlock after × (exchange.session.outgoing ≢ [])
+IsNext known may_ask Room exchange after = (may_ask ≡ false) × (wants exchange.session ≡ true) × HasCome known.reads exchange after
+IsNext known may_ask Done exchange after = is_done exchange.session ≡ true
+IsNext {T} known may_ask Failed exchange after = (before : T) × (known.reads before read.Failed after ⊎ known.writes before write.Failed after)

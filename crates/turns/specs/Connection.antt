@@ -1,5 +1,5 @@
 -- A turn of a connection, up to its closing (docs/WMS.md, "HTTP").
-use Rattle.std.specs.Prelude.{◌≡◌, ◌⊎◌, ◌≤◌, ◌<◌, ◌+◌, ℕ, List, [], length, Option, Bool, true, false, not, ◌==◌}
+use Rattle.std.specs.Prelude.{◌≡◌, ◌⊎◌, ◌≤◌, ◌<◌, ◌+◌, ℕ, List, [], length, Bool, true, false, not, ◌==◌}
 use Rattle.std.specs.Io.KnownBytes.{Appends}
 use Rattle.httpedge.specs.Exchange.{Said}
 use Rattle.turns.specs.Advancing.{Advances, Calls, IsNext, HasTaken}
@@ -8,10 +8,10 @@ use Rattle.turns.specs.Times.{capped, phase_after, is_over, is_draining}
 use Rattle.turns.specs.declared.open_connection.OpenConnection.{OpenConnection}
 use Rattle.turns.specs.declared.outcomes.ReadOutcome.{ReadOutcome}
 use Rattle.turns.specs.declared.outcomes.ReadOutcome.TheVariants as read
-use Rattle.turns.specs.declared.outcomes.WriteOutcome.{WriteOutcome}
 use Rattle.turns.specs.declared.turn.Next.{Next}
 use Rattle.turns.specs.declared.turn.Next.TheVariants as next
 use Rattle.turns.specs.declared.turn.TurnResult.{TurnResult}
+use Rattle.turns.specs.declared.transport.Transport.{Ghosts as Transport}
 
 -- how many bytes of a response are to be sent to a connection
 abbrev pub owed_by : {T : Type 0} → OpenConnection T → ℕ
@@ -25,27 +25,27 @@ next_by other = other
 -- a turn before the last answer was sent: the connection goes on as its session does, and its phase changes by what happened. It waits for the call
 -- that would have waited. It has a further turn at once only where bytes were taken or sent. It is read once at most, then written to once at most,
 -- and then its sending side is closed, if that was the last answer. No other call is made
-pub record IsServed {A T : Type 0} (answers : A → List ℕ → Said → A → Type 0) (delivered accepted : T → Option (List ℕ)) (reads : T → ReadOutcome → T → Type 0) (writes : T → WriteOutcome → T → Type 0) (shuts : T → T → Type 0) (may_ask : Bool) (now : ℕ) (old : OpenConnection T) (asker : A) (new : OpenConnection T) (asks : A) (result : Next) : Type 0 where
+pub record IsServed {A T : Type 0} (answers : A → List ℕ → Said → A → Type 0) (known : Transport T) (may_ask : Bool) (now : ℕ) (old : OpenConnection T) (asker : A) (new : OpenConnection T) (asks : A) (result : Next) : Type 0 where
   pub turned : TurnResult
-  pub advances : Advances answers delivered accepted old.exchange old.transport asker new.exchange new.transport asks turned.sent
+  pub advances : Advances answers known old.exchange old.transport asker new.exchange new.transport asks turned.sent
   pub time : new.phase ≡ phase_after old.phase turned (not (owed_by new == 0)) now
-  pub moves : turned.next ≡ next.Turn → (0 < turned.sent) ⊎ HasTaken reads old.exchange old.transport new.exchange new.transport
+  pub moves : turned.next ≡ next.Turn → (0 < turned.sent) ⊎ HasTaken known.reads old.exchange old.transport new.exchange new.transport
   pub called : T
-  pub calls : Calls reads writes old.transport called
-  pub shut : turned.next ≡ next.Done → shuts called new.transport
+  pub calls : Calls known old.transport called
+  pub shut : turned.next ≡ next.Done → known.shuts called new.transport
   pub unshut : (turned.next ≡ next.Done → ⊥) → new.transport ≡ called
   pub next : result ≡ next_by turned.next
-  pub waits : IsNext reads writes may_ask result new.exchange new.transport
+  pub waits : IsNext known may_ask result new.exchange new.transport
 
 -- a turn after the last answer: one read, whose bytes are dropped. The connection is over at the end of what the client sends, at a fault, and where
 -- more than 1,048,576 bytes were dropped
-pub record IsDrained {T : Type 0} (delivered accepted : T → Option (List ℕ)) (reads : T → ReadOutcome → T → Type 0) (old : OpenConnection T) (new : OpenConnection T) (result : Next) : Type 0 where
+pub record IsDrained {T : Type 0} (known : Transport T) (old : OpenConnection T) (new : OpenConnection T) (result : Next) : Type 0 where
   pub session : new.exchange.session ≡ old.exchange.session
   pub came : List ℕ
-  pub gave : Appends (delivered old.transport) (delivered new.transport) came
-  pub writes : Appends (accepted old.transport) (accepted new.transport) []
+  pub gave : Appends (known.delivered old.transport) (known.delivered new.transport) came
+  pub writes : Appends (known.accepted old.transport) (known.accepted new.transport) []
   pub outcome : ReadOutcome
-  pub one_read : reads old.transport outcome new.transport
+  pub one_read : known.reads old.transport outcome new.transport
   pub idle : outcome ≡ read.WouldBlock → new.exchange.buffer ≡ []
   pub dropped : new.dropped ≡ capped (old.dropped + brought outcome)
   pub next : result ≡ next_drained outcome new.dropped
@@ -53,8 +53,8 @@ pub record IsDrained {T : Type 0} (delivered accepted : T → Option (List ℕ))
 
 -- a turn of a connection: before its last answer was sent it is served, and after that it is drained; one that is over is reported as failed. Where
 -- no query may be answered, the answerer isn't called, and no more bytes are to be sent than before
-pub record IsTurn {A T : Type 0} (answers : A → List ℕ → Said → A → Type 0) (delivered accepted : T → Option (List ℕ)) (reads : T → ReadOutcome → T → Type 0) (writes : T → WriteOutcome → T → Type 0) (shuts : T → T → Type 0) (may_ask : Bool) (now : ℕ) (old : OpenConnection T) (asker : A) (new : OpenConnection T) (asks : A) (result : Next) : Type 0 where
+pub record IsTurn {A T : Type 0} (answers : A → List ℕ → Said → A → Type 0) (known : Transport T) (may_ask : Bool) (now : ℕ) (old : OpenConnection T) (asker : A) (new : OpenConnection T) (asks : A) (result : Next) : Type 0 where
   pub over : is_over old.phase ≡ true → (new ≡ old) × (asks ≡ asker) × (result ≡ next.Failed)
-  pub drained : is_draining old.phase ≡ true → IsDrained delivered accepted reads old new result × (asks ≡ asker)
-  pub served : is_over old.phase ≡ false → is_draining old.phase ≡ false → IsServed answers delivered accepted reads writes shuts may_ask now old asker new asks result
+  pub drained : is_draining old.phase ≡ true → IsDrained known old new result × (asks ≡ asker)
+  pub served : is_over old.phase ≡ false → is_draining old.phase ≡ false → IsServed answers known may_ask now old asker new asks result
   pub no_more : may_ask ≡ false → (owed_by new ≤ owed_by old) × (asks ≡ asker)

@@ -1,6 +1,6 @@
 -- The bytes that are read after the last answer (docs/WMS.md, "HTTP").
 use Rattle.std.specs.Prelude.{ℕ, nat_lt, if◌then◌else◌}
-use Rattle.turns.specs.declared.drained.TheConstants.{DRAINED_BYTES}
+use Rattle.turns.specs.declared.drained.TheConstants.{MAX_DRAINED_BYTES}
 use Rattle.turns.specs.declared.outcomes.ReadOutcome.{ReadOutcome}
 use Rattle.turns.specs.declared.outcomes.ReadOutcome.TheVariants as read
 use Rattle.turns.specs.declared.times.Phase.{Phase}
@@ -17,7 +17,7 @@ brought read.Failed = 0
 
 -- what a connection waits for after a read whose bytes were dropped
 abbrev pub next_drained : ReadOutcome → ℕ → Next
-next_drained (read.Bytes n) dropped = if nat_lt DRAINED_BYTES dropped then next.Done else next.Turn
+next_drained (read.Bytes n) dropped = if nat_lt MAX_DRAINED_BYTES dropped then next.Done else next.Turn
 next_drained read.WouldBlock dropped = next.Readable
 next_drained read.End dropped = next.Done
 next_drained read.Failed dropped = next.Failed

@@ -6,19 +6,19 @@ use Rattle.turns.specs.Table.{connections, ready_slots, waiting_slots, has_room}
 use Rattle.turns.specs.declared.open_connection.OpenConnection.{OpenConnection}
 use Rattle.turns.specs.declared.pressure.Pressure.{Pressure}
 use Rattle.turns.specs.declared.pressure.Pressure.TheVariants.{Slot, Room}
-use Rattle.turns.specs.declared.pressure.TheConstants.{PATIENCE}
+use Rattle.turns.specs.declared.pressure.TheConstants.{PATIENCE_MILLIS}
 use Rattle.turns.specs.declared.table.ConnectionTable.{ConnectionTable}
 use Rattle.turns.specs.declared.times.Phase.{Phase}
 use Rattle.turns.specs.declared.times.Phase.TheVariants.{Opened, Idle, Head, Answer}
 
 -- a head that is a second old may give way, after each connection that isn't amid one, by when its last bytes came
 abbrev pub head_rank : ℕ → ℕ → Option ℕ
-head_rank passed moved = if nat_lt passed PATIENCE then None else Some (2 ^ 64 + moved)
+head_rank passed moved = if nat_lt passed PATIENCE_MILLIS then None else Some (2 ^ 64 + moved)
 
 -- an answer of over a second may be broken off where no byte of it was taken for a second, or fewer than the least rate asks for: by its rate, in
 -- whole bytes per millisecond
 abbrev pub answer_rank : ℕ → ℕ → ℕ → ℕ → Option ℕ
-answer_rank rate passed still sent = if nat_lt PATIENCE passed && (nat_lt PATIENCE still || nat_lt (sent / passed) rate) then Some (sent / passed) else None
+answer_rank rate passed still sent = if nat_lt PATIENCE_MILLIS passed && (nat_lt PATIENCE_MILLIS still || nat_lt (sent / passed) rate) then Some (sent / passed) else None
 
 -- for a slot, connections that were opened or are between requests may give way, by when that began, and then heads; for room, answers
 abbrev pub rank : Pressure → Phase → Option ℕ

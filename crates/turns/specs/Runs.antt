@@ -7,17 +7,16 @@ use Rattle.httpedge.specs.declared.stage.Stage.TheVariants.{Ended}
 use Rattle.turns.specs.Pressure.{IsFirst, IsWanted}
 use Rattle.turns.specs.Queue.{has, joins, before}
 use Rattle.turns.specs.Slots.{at_slot, OthersStay, HasTurn}
-use Rattle.turns.specs.Table.{connections, ready_slots, waiting_slots, has_room, timeouts_of, KeepsWaiting}
+use Rattle.turns.specs.Table.{Goes, connections, ready_slots, waiting_slots, has_room, timeouts_of, KeepsWaiting}
 use Rattle.turns.specs.Times.{deadline, is_over, is_draining, is_unanswered}
 use Rattle.turns.specs.declared.open_connection.OpenConnection.{OpenConnection}
 use Rattle.turns.specs.declared.pressure.Pressure.{Pressure}
-use Rattle.turns.specs.declared.outcomes.ReadOutcome.{ReadOutcome}
 use Rattle.turns.specs.declared.outcomes.ReadOutcome.TheVariants as read
-use Rattle.turns.specs.declared.outcomes.WriteOutcome.{WriteOutcome}
 use Rattle.turns.specs.declared.outcomes.WriteOutcome.TheVariants as write
 use Rattle.turns.specs.declared.table.ConnectionTable.{ConnectionTable}
 use Rattle.turns.specs.declared.turn.Next.{Next}
 use Rattle.turns.specs.declared.turn.Next.TheVariants.{Turn, Room}
+use Rattle.turns.specs.declared.transport.Transport.{Ghosts as Transport}
 
 -- why a connection leaves its slot: its time is over at a moment, its worker ends and it isn't being answered, or it gives way to others
 pub data Reason : Type 0 where
@@ -39,50 +38,45 @@ pub data Step (T : Type 0) : Type 0 where
   Serves : ℕ → Option Next → ℕ → Step T
   Leaves : ℕ → Reason → Step T
 
--- slots came to the queue, and none that waits for room was lost
-pub record Goes {T : Type 0} (old new : ConnectionTable T) : Type 0 where
-  pub keeps : KeepsWaiting old new
-  pub joins : (slots : List ℕ) × (ready_slots new ≡ joins (ready_slots old) slots)
-
 -- a connection of which nothing came and to which nothing is to be sent
 pub record IsNew {T : Type 0} (connection : OpenConnection T) : Type 0 where
   pub session : connection.exchange.session ≡ new_session
   pub buffer : connection.exchange.buffer ≡ []
 
 -- the connection at a slot had its turn, or there is none
-abbrev pub Turned : {A T : Type 0} → (A → List ℕ → Said → A → Type 0) → (T → Option (List ℕ)) → (T → Option (List ℕ)) → (T → ReadOutcome → T → Type 0) → (T → WriteOutcome → T → Type 0) → (T → T → Type 0) → ConnectionTable T → A → ℕ → Option Next → ℕ → List (Option (OpenConnection T)) → A → Type 0
-Turned answers delivered accepted reads writes shuts old asker slot None now new asks = (new ≡ connections old) × (asks ≡ asker) × (at_slot (connections old) slot ≡ None)
-Turned answers delivered accepted reads writes shuts old asker slot (Some next) now new asks =
-    HasTurn answers delivered accepted reads writes shuts (has_room old) now slot (connections old) asker new asks next
+abbrev pub Turned : {A T : Type 0} → (A → List ℕ → Said → A → Type 0) → Transport T → ConnectionTable T → A → ℕ → Option Next → ℕ → List (Option (OpenConnection T)) → A → Type 0
+Turned answers known old asker slot None now new asks = (new ≡ connections old) × (asks ≡ asker) × (at_slot (connections old) slot ≡ None)
+Turned answers known old asker slot (Some next) now new asks =
+    HasTurn answers known (has_room old) now slot (connections old) asker new asks next
 
 -- the first of the queue had its turn
-pub record IsTurnOf {A T : Type 0} (answers : A → List ℕ → Said → A → Type 0) (delivered accepted : T → Option (List ℕ)) (reads : T → ReadOutcome → T → Type 0) (writes : T → WriteOutcome → T → Type 0) (shuts : T → T → Type 0) (old : ConnectionTable T) (asker : A) (slot : ℕ) (next : Option Next) (now : ℕ) (new : ConnectionTable T) (asks : A) : Type 0 where
+pub record IsTurnOf {A T : Type 0} (answers : A → List ℕ → Said → A → Type 0) (known : Transport T) (old : ConnectionTable T) (asker : A) (slot : ℕ) (next : Option Next) (now : ℕ) (new : ConnectionTable T) (asks : A) : Type 0 where
   pub rest : List ℕ
   pub slots : List ℕ
   pub first : ready_slots old ≡ slot ∷ rest
   pub later : ready_slots new ≡ joins rest slots
-  pub own : Turned answers delivered accepted reads writes shuts old asker slot next now (connections new) asks
+  pub own : Turned answers known old asker slot next now (connections new) asks
   pub others : OthersStay slot (connections old) (connections new)
   pub turns : next ≡ Some Turn → has slot (ready_slots new) ≡ true
   pub waits : next ≡ Some Room → (has slot (ready_slots new) ≡ true) ⊎ (has slot (waiting_slots new) ≡ true)
   pub keeps : KeepsWaiting old new
 
 -- a table made a step
-abbrev pub Steps : {A T : Type 0} → (A → List ℕ → Said → A → Type 0) → (T → Option (List ℕ)) → (T → Option (List ℕ)) → (T → ReadOutcome → T → Type 0) → (T → WriteOutcome → T → Type 0) → (T → T → Type 0) → ConnectionTable T → A → Step T → ConnectionTable T → A → Type 0
-Steps answers delivered accepted reads writes shuts old asker (Opens slot connection) new asks =
+abbrev pub Steps : {A T : Type 0} → (A → List ℕ → Said → A → Type 0) → Transport T → ConnectionTable T → A → Step T → ConnectionTable T → A → Type 0
+Steps answers known old asker (Opens slot connection) new asks =
     (asks ≡ asker) × IsNew connection × (at_slot (connections new) slot ≡ Some connection) × OthersStay slot (connections old) (connections new)
     × (has slot (ready_slots new) ≡ true) × Goes old new
-Steps answers delivered accepted reads writes shuts old asker (Wakes slot) new asks = (asks ≡ asker) × (connections new ≡ connections old) × Goes old new
-Steps answers delivered accepted reads writes shuts old asker (Serves slot next now) new asks = IsTurnOf answers delivered accepted reads writes shuts old asker slot next now new asks
-Steps answers delivered accepted reads writes shuts old asker (Leaves slot why) new asks =
+Steps answers known old asker (Wakes slot) new asks = (asks ≡ asker) × (connections new ≡ connections old) × Goes old new
+Steps answers known old asker (Serves slot next now) new asks = IsTurnOf answers known old asker slot next now new asks
+Steps answers known old asker (Leaves slot why) new asks =
     (asks ≡ asker) × IsReason why old slot × (at_slot (connections new) slot ≡ None) × OthersStay slot (connections old) (connections new) × Goes old new
 
 -- a table made these steps, one after the other
-abbrev pub Runs : {A T : Type 0} → (A → List ℕ → Said → A → Type 0) → (T → Option (List ℕ)) → (T → Option (List ℕ)) → (T → ReadOutcome → T → Type 0) → (T → WriteOutcome → T → Type 0) → (T → T → Type 0) → ConnectionTable T → A → List (Step T) → ConnectionTable T → A → Type 0
-Runs answers delivered accepted reads writes shuts old asker [] new asks = (new ≡ old) × (asks ≡ asker)
-Runs {A} {T} answers delivered accepted reads writes shuts old asker (step ∷ steps) new asks =
-    (between : ConnectionTable T) × (other : A) × Steps answers delivered accepted reads writes shuts old asker step between other
-    × Runs answers delivered accepted reads writes shuts between other steps new asks
+abbrev pub Runs : {A T : Type 0} → (A → List ℕ → Said → A → Type 0) → Transport T → ConnectionTable T → A → List (Step T) → ConnectionTable T → A → Type 0
+Runs answers known old asker [] new asks = (new ≡ old) × (asks ≡ asker)
+Runs {A} {T} answers known old asker (step ∷ steps) new asks =
+    (between : ConnectionTable T) × (other : A) × Steps answers known old asker step between other
+    × Runs answers known between other steps new asks
 
 -- the connections that came last to each slot
 abbrev pub comes : {T : Type 0} → (ℕ → Option (OpenConnection T)) → Step T → ℕ → Option (OpenConnection T)
@@ -102,40 +96,40 @@ AreSaid {A} answers (one ∷ others) = ((old new : A) × answers old one.query o
 
 -- since a connection came, `read` came of its client, and `written` was sent to it. Up to the bytes that are left or dropped, `written` and what is to be
 -- sent answer `read`, by outcomes that the answerer gave
-pub record IsAnswered {A T : Type 0} (answers : A → List ℕ → Said → A → Type 0) (delivered accepted : T → Option (List ℕ)) (first now : OpenConnection T) : Type 0 where
+pub record IsAnswered {A T : Type 0} (answers : A → List ℕ → Said → A → Type 0) (known : Transport T) (first now : OpenConnection T) : Type 0 where
   pub read : List ℕ
   pub written : List ℕ
   pub queries : List QueryOutcome
   pub front : List ℕ
   pub rest : List ℕ
   pub is : read ≡ front ++ rest
-  pub came : Appends (delivered first.transport) (delivered now.transport) read
-  pub went : Appends (accepted first.transport) (accepted now.transport) written
+  pub came : Appends (known.delivered first.transport) (known.delivered now.transport) read
+  pub went : Appends (known.accepted first.transport) (known.accepted now.transport) written
   pub said : AreSaid answers queries
   pub responded : HasRespondedWith front queries written now.exchange.session
   pub left : is_over now.phase ≡ false → is_draining now.phase ≡ false → (rest ≡ now.exchange.buffer) × (now.exchange.session.stage ≡ Ended → now.exchange.buffer ≡ [])
 
 -- a connection has nothing to do until an event comes: it is over; or the last read or the last write would have waited
-abbrev pub IsQuiet : {T : Type 0} → (T → ReadOutcome → T → Type 0) → (T → WriteOutcome → T → Type 0) → OpenConnection T → Type 0
-IsQuiet {T} reads writes now =
+abbrev pub IsQuiet : {T : Type 0} → Transport T → OpenConnection T → Type 0
+IsQuiet {T} known now =
     (is_over now.phase ≡ true)
-    ⊎ (((before : T) × reads before read.WouldBlock now.transport × (now.exchange.buffer ≡ []))
-    ⊎ ((before : T) × writes before write.WouldBlock now.transport × (now.exchange.session.outgoing ≢ [])))
+    ⊎ (((before : T) × known.reads before read.WouldBlock now.transport × (now.exchange.buffer ≡ []))
+    ⊎ ((before : T) × known.writes before write.WouldBlock now.transport × (now.exchange.session.outgoing ≢ [])))
 
 -- the connection at a slot came there, is answered, and isn't forgotten: it has a turn, waits for room, or an event will come for it
-pub record IsKept {A T : Type 0} (answers : A → List ℕ → Said → A → Type 0) (delivered accepted : T → Option (List ℕ)) (reads : T → ReadOutcome → T → Type 0) (writes : T → WriteOutcome → T → Type 0) (found : ℕ → Option (OpenConnection T)) (table : ConnectionTable T) (slot : ℕ) (now : OpenConnection T) : Type 0 where
+pub record IsKept {A T : Type 0} (answers : A → List ℕ → Said → A → Type 0) (known : Transport T) (found : ℕ → Option (OpenConnection T)) (table : ConnectionTable T) (slot : ℕ) (now : OpenConnection T) : Type 0 where
   pub first : OpenConnection T
   pub came : found slot ≡ Some first
-  pub answered : IsAnswered answers delivered accepted first now
-  pub held : (has slot (ready_slots table) ≡ true) ⊎ ((has slot (waiting_slots table) ≡ true) ⊎ IsQuiet reads writes now)
+  pub answered : IsAnswered answers known first now
+  pub held : (has slot (ready_slots table) ≡ true) ⊎ ((has slot (waiting_slots table) ≡ true) ⊎ IsQuiet known now)
 
 -- the law of runs: from a table without connections, whatever its steps, each connection at a slot is that which came there last, is answered by what its
 -- client sent, and isn't forgotten
-abbrev pub RunsAnswer : {A T : Type 0} → (A → List ℕ → Said → A → Type 0) → (T → Option (List ℕ)) → (T → Option (List ℕ)) → (T → ReadOutcome → T → Type 0) → (T → WriteOutcome → T → Type 0) → (T → T → Type 0) → Type 0
-RunsAnswer {A} {T} answers delivered accepted reads writes shuts =
+abbrev pub RunsAnswer : {A T : Type 0} → (A → List ℕ → Said → A → Type 0) → Transport T → Type 0
+RunsAnswer {A} {T} answers known =
     (table last : ConnectionTable T) (asker asks : A) (steps : List (Step T)) → ((slot : ℕ) → at_slot (connections table) slot ≡ None)
-    → Runs answers delivered accepted reads writes shuts table asker steps last asks
-    → (slot : ℕ) (now : OpenConnection T) → at_slot (connections last) slot ≡ Some now → IsKept answers delivered accepted reads writes (all_come (λ _. None) steps) last slot now
+    → Runs answers known table asker steps last asks
+    → (slot : ℕ) (now : OpenConnection T) → at_slot (connections last) slot ≡ Some now → IsKept answers known (all_come (λ _. None) steps) last slot now
 
 -- the slots that had a turn, in order
 abbrev pub turns_of : {T : Type 0} → List (Step T) → List ℕ
@@ -146,17 +140,17 @@ turns_of (Serves slot next now ∷ steps) = slot ∷ turns_of steps
 turns_of (Leaves slot why ∷ steps) = turns_of steps
 
 -- the law of turns in runs: a slot that has a turn has it after the turns of those before it in the queue, and no others, whatever steps are made
-abbrev pub RunsServe : {A T : Type 0} → (A → List ℕ → Said → A → Type 0) → (T → Option (List ℕ)) → (T → Option (List ℕ)) → (T → ReadOutcome → T → Type 0) → (T → WriteOutcome → T → Type 0) → (T → T → Type 0) → Type 0
-RunsServe {A} {T} answers delivered accepted reads writes shuts =
-    (table last : ConnectionTable T) (asker asks : A) (steps : List (Step T)) → Runs answers delivered accepted reads writes shuts table asker steps last asks
+abbrev pub RunsServe : {A T : Type 0} → (A → List ℕ → Said → A → Type 0) → Transport T → Type 0
+RunsServe {A} {T} answers known =
+    (table last : ConnectionTable T) (asker asks : A) (steps : List (Step T)) → Runs answers known table asker steps last asks
     → (slot : ℕ) → has slot (ready_slots table) ≡ true → length (before slot (ready_slots table)) < length (turns_of steps) → has slot (turns_of steps) ≡ true
 
 -- the law of turns that stay: whatever steps are made, a slot that has a turn is served, or has its turn still
-abbrev pub TurnsStay : {A T : Type 0} → (A → List ℕ → Said → A → Type 0) → (T → Option (List ℕ)) → (T → Option (List ℕ)) → (T → ReadOutcome → T → Type 0) → (T → WriteOutcome → T → Type 0) → (T → T → Type 0) → Type 0
-TurnsStay {A} {T} answers delivered accepted reads writes shuts =
-    (table last : ConnectionTable T) (asker asks : A) (steps : List (Step T)) → Runs answers delivered accepted reads writes shuts table asker steps last asks
+abbrev pub TurnsStay : {A T : Type 0} → (A → List ℕ → Said → A → Type 0) → Transport T → Type 0
+TurnsStay {A} {T} answers known =
+    (table last : ConnectionTable T) (asker asks : A) (steps : List (Step T)) → Runs answers known table asker steps last asks
     → (slot : ℕ) → has slot (ready_slots table) ≡ true → (has slot (turns_of steps) ≡ true) ⊎ (has slot (ready_slots last) ≡ true)
 
 -- a table made some steps
-abbrev pub HasRun : {A T : Type 0} → (A → List ℕ → Said → A → Type 0) → (T → Option (List ℕ)) → (T → Option (List ℕ)) → (T → ReadOutcome → T → Type 0) → (T → WriteOutcome → T → Type 0) → (T → T → Type 0) → ConnectionTable T → A → ConnectionTable T → A → Type 0
-HasRun {A} {T} answers delivered accepted reads writes shuts old asker new asks = (steps : List (Step T)) × Runs answers delivered accepted reads writes shuts old asker steps new asks
+abbrev pub HasRun : {A T : Type 0} → (A → List ℕ → Said → A → Type 0) → Transport T → ConnectionTable T → A → ConnectionTable T → A → Type 0
+HasRun {A} {T} answers known old asker new asks = (steps : List (Step T)) × Runs answers known old asker steps new asks

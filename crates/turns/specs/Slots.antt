@@ -3,9 +3,8 @@ use Rattle.std.specs.Prelude.{◌≡◌, ℕ, List, Option, None, Some, get_or, 
 use Rattle.httpedge.specs.Exchange.{Said}
 use Rattle.turns.specs.Connection.{IsTurn}
 use Rattle.turns.specs.declared.open_connection.OpenConnection.{OpenConnection}
-use Rattle.turns.specs.declared.outcomes.ReadOutcome.{ReadOutcome}
-use Rattle.turns.specs.declared.outcomes.WriteOutcome.{WriteOutcome}
 use Rattle.turns.specs.declared.turn.Next.{Next}
+use Rattle.turns.specs.declared.transport.Transport.{Ghosts as Transport}
 
 -- the connection at a slot, if there is one
 abbrev pub at_slot : {T : Type 0} → List (Option (OpenConnection T)) → ℕ → Option (OpenConnection T)
@@ -16,9 +15,9 @@ abbrev pub OthersStay : {T : Type 0} → ℕ → List (Option (OpenConnection T)
 OthersStay slot old new = (other : ℕ) → (other ≡ slot → ⊥) → at_slot new other ≡ at_slot old other
 
 -- the connection at a slot had a turn
-pub record HasTurn {A T : Type 0} (answers : A → List ℕ → Said → A → Type 0) (delivered accepted : T → Option (List ℕ)) (reads : T → ReadOutcome → T → Type 0) (writes : T → WriteOutcome → T → Type 0) (shuts : T → T → Type 0) (may_ask : Bool) (now slot : ℕ) (old : List (Option (OpenConnection T))) (asker : A) (new : List (Option (OpenConnection T))) (asks : A) (result : Next) : Type 0 where
+pub record HasTurn {A T : Type 0} (answers : A → List ℕ → Said → A → Type 0) (known : Transport T) (may_ask : Bool) (now slot : ℕ) (old : List (Option (OpenConnection T))) (asker : A) (new : List (Option (OpenConnection T))) (asks : A) (result : Next) : Type 0 where
   pub before : OpenConnection T
   pub after : OpenConnection T
   pub was : at_slot old slot ≡ Some before
   pub is : at_slot new slot ≡ Some after
-  pub turn : IsTurn answers delivered accepted reads writes shuts may_ask now before asker after asks result
+  pub turn : IsTurn answers known may_ask now before asker after asks result

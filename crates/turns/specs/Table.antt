@@ -1,7 +1,9 @@
 -- The parts of a table of connections that its contract speaks of (docs/WMS.md, "HTTP").
-use Rattle.std.specs.Prelude.{◌≡◌, ◌⊎◌, ℕ, List, Option, Bool, true, nat_lt}
-use Rattle.turns.specs.Queue.{has}
+use Rattle.std.specs.Prelude.{◌≡◌, ◌⊎◌, ℕ, List, Option, None, Some, Bool, true, nat_lt}
+use Rattle.turns.specs.Queue.{has, joins}
+use Rattle.turns.specs.Slots.{at_slot, OthersStay}
 use Rattle.turns.specs.declared.open_connection.OpenConnection.{OpenConnection}
+use Rattle.turns.specs.declared.served.Closed.{Closed}
 use Rattle.turns.specs.declared.times.Timeouts.{Timeouts}
 use Rattle.turns.specs.declared.table.ConnectionTable.{ConnectionTable}
 
@@ -35,6 +37,23 @@ pub record KeepsWaiting {T : Type 0} (old new : ConnectionTable T) : Type 0 wher
   pub room : room_of new ≡ room_of old
   pub waiting : (slot : ℕ) → has slot (waiting_slots old) ≡ true → (has slot (ready_slots new) ≡ true) ⊎ (has slot (waiting_slots new) ≡ true)
 
--- no slot that has a turn loses it
-abbrev pub KeepsReady : {T : Type 0} → ConnectionTable T → ConnectionTable T → Type 0
-KeepsReady old new = (slot : ℕ) → has slot (ready_slots old) ≡ true → has slot (ready_slots new) ≡ true
+-- slots came to the queue, and none that waits for room was lost
+pub record Goes {T : Type 0} (old new : ConnectionTable T) : Type 0 where
+  pub keeps : KeepsWaiting old new
+  pub joins : (slots : List ℕ) × (ready_slots new ≡ joins (ready_slots old) slots)
+
+-- this connection left its slot, and all others stay
+pub record HasLeft {T : Type 0} (slot : ℕ) (connection : OpenConnection T) (old new : ConnectionTable T) : Type 0 where
+  pub was : at_slot (connections old) slot ≡ Some connection
+  pub gone : at_slot (connections new) slot ≡ None
+  pub others : OthersStay slot (connections old) (connections new)
+
+-- a connection left this slot, or all stay
+abbrev pub LeftOrStayed : {T : Type 0} → ℕ → Option (OpenConnection T) → ConnectionTable T → ConnectionTable T → Type 0
+LeftOrStayed slot None old new = connections new ≡ connections old
+LeftOrStayed slot (Some connection) old new = HasLeft slot connection old new
+
+-- a connection that was closed left its slot, or all stay
+abbrev pub ClosedOrStayed : {T : Type 0} → Option (Closed T) → ConnectionTable T → ConnectionTable T → Type 0
+ClosedOrStayed None old new = connections new ≡ connections old
+ClosedOrStayed (Some closed) old new = HasLeft closed.slot closed.connection old new

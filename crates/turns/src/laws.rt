@@ -15,17 +15,17 @@ pub fn fair()
 /// Whatever steps a table makes that had no connection: each connection at a slot is the one that came there last. It was sent
 /// what answers the bytes of its client. It has a turn, waits for room, or has nothing to do until an event comes for it.
 pub fn runs_answer<A: Asks, T: Transport>()
-    ensures { RunsAnswer A.answers T.delivered T.accepted T.reads T.writes T.shuts }
+    ensures { RunsAnswer A.answers ⟦<T as Transport>⟧ }
 {}
 
 /// A slot that has a turn has it after the turns of those before it in the queue, and no others, whatever steps are made.
 pub fn runs_serve<A: Asks, T: Transport>()
-    ensures { RunsServe A.answers T.delivered T.accepted T.reads T.writes T.shuts }
+    ensures { RunsServe A.answers ⟦<T as Transport>⟧ }
 {}
 
 /// A slot that has a turn is served, or has its turn still, whatever steps are made: no event is forgotten.
 pub fn turns_stay<A: Asks, T: Transport>()
-    ensures { TurnsStay A.answers T.delivered T.accepted T.reads T.writes T.shuts }
+    ensures { TurnsStay A.answers ⟦<T as Transport>⟧ }
 {}
 
 /// A connection that gives way to others has no turn, and doesn't wait for room.

@@ -37,9 +37,9 @@ mod transport;
 mod turn;
 
 pub use buffered_session::BufferedSession;
-pub use drained::DRAINED_BYTES;
+pub use drained::MAX_DRAINED_BYTES;
 pub use open_connection::OpenConnection;
-pub use pressure::{PATIENCE, Pressure};
+pub use pressure::{PATIENCE_MILLIS, Pressure};
 pub use read_buffer::{READ_BYTES, ReadBuffer};
 pub use ready_queue::ReadyQueue;
 pub use served::{Closed, Served};

@@ -3,7 +3,7 @@ ghost use Rattle.httpedge.specs.Session.{new_session};
 ghost use Rattle.turns.specs.declared.times.Phase.TheVariants.{Opened};
 ghost use Rattle.turns.specs.Drain.{brought, next_drained, phase_drained};
 
-use crate::drained::DRAINED_BYTES;
+use crate::drained::MAX_DRAINED_BYTES;
 use crate::{BufferedSession, Next, Phase, ReadOutcome, Transport, TurnResult, serve_turn};
 use httpedge::Asks;
 use std::alloc::Global;
@@ -36,7 +36,7 @@ fn next_drained(outcome: ReadOutcome, dropped: usize) -> Next
     ensures { result ≡ next_drained outcome dropped }
 {
     match outcome {
-        ReadOutcome::Bytes(_) if dropped <= DRAINED_BYTES => Next::Turn,
+        ReadOutcome::Bytes(_) if dropped <= MAX_DRAINED_BYTES => Next::Turn,
         ReadOutcome::WouldBlock => Next::Readable,
         ReadOutcome::Failed => Next::Failed,
         _ => Next::Done,
@@ -88,7 +88,7 @@ impl<T: Transport> OpenConnection<T> {
 
     // A turn before the last answer was sent. After that answer the sending side is closed, and further turns drain.
     fn serve<A: Asks>(&mut self, asks: &mut A, may_ask: bool, now: u64) -> TurnResult
-        ensures served { IsServed A.answers T.delivered T.accepted T.reads T.writes T.shuts may_ask now self.old asks.old self.new asks.new result.next }
+        ensures served { IsServed A.answers ⟦<T as Transport>⟧ may_ask now self.old asks.old self.new asks.new result.next }
         ensures unasked { result.asked ≡ false → asks.new ≡ asks.old }
         ensures no_more { may_ask ≡ false → (owed_by self.new ≤ owed_by self.old) × (asks.new ≡ asks.old) }
     {
@@ -107,7 +107,7 @@ impl<T: Transport> OpenConnection<T> {
 
     // A turn after the last answer: the bytes that still come are dropped.
     fn drain(&mut self) -> Next
-        ensures { IsDrained T.delivered T.accepted T.reads self.old self.new result }
+        ensures { IsDrained ⟦<T as Transport>⟧ self.old self.new result }
     {
         let left = self.exchange.buffer.bytes().len();
         self.exchange.buffer.consume(left);
@@ -120,7 +120,7 @@ impl<T: Transport> OpenConnection<T> {
 
     /// The connection's turn.
     pub fn turn<A: Asks>(&mut self, asks: &mut A, may_ask: bool, now: u64) -> TurnResult
-        ensures turn { IsTurn A.answers T.delivered T.accepted T.reads T.writes T.shuts may_ask now self.old asks.old self.new asks.new result.next }
+        ensures turn { IsTurn A.answers ⟦<T as Transport>⟧ may_ask now self.old asks.old self.new asks.new result.next }
         ensures unasked { result.asked ≡ false → asks.new ≡ asks.old }
     {
         match self.phase {

@@ -4,10 +4,10 @@ ghost use Rattle.turns.specs.Pressure.{answer_rank, first_of, head_rank, rank};
 use crate::Phase;
 
 /// For how many milliseconds a head or an answer goes, at least, until its connection may give way.
-pub const PATIENCE: u64 = 1_000;
+pub const PATIENCE_MILLIS: u64 = 1_000;
 
 // The rank of the first head, behind each connection that isn't amid one.
-const HEADS: u128 = 1 << 64;
+const FIRST_HEAD_RANK: u128 = 1 << 64;
 
 /// Why connections are closed before their time is over.
 #[derive(Clone, Copy, Debug)]
@@ -45,10 +45,10 @@ impl Pressure {
 fn head_rank(passed: u64, moved: u64) -> Option<u128>
     ensures { result ≡ head_rank passed moved }
 {
-    if passed < PATIENCE {
+    if passed < PATIENCE_MILLIS {
         None
     } else {
-        Some(HEADS + u128::from(moved))
+        Some(FIRST_HEAD_RANK + u128::from(moved))
     }
 }
 
@@ -56,7 +56,7 @@ fn head_rank(passed: u64, moved: u64) -> Option<u128>
 fn answer_rank(rate: u64, passed: u64, still: u64, sent: u64) -> Option<u128>
     ensures { result ≡ answer_rank rate passed still sent }
 {
-    if passed > PATIENCE && (still > PATIENCE || sent / passed < rate) {
+    if passed > PATIENCE_MILLIS && (still > PATIENCE_MILLIS || sent / passed < rate) {
         Some(u128::from(sent / passed))
     } else {
         None

@@ -24,7 +24,7 @@ fn turn_of<T: Transport, A: Asks>(
     may_ask: bool,
     now: u64,
 ) -> (TurnResult, u128, u128)
-    ensures turn { IsTurn A.answers T.delivered T.accepted T.reads T.writes T.shuts may_ask now connection.old asks.old connection.new asks.new result.0.next }
+    ensures turn { IsTurn A.answers ⟦<T as Transport>⟧ may_ask now connection.old asks.old connection.new asks.new result.0.next }
     ensures unasked { result.0.asked ≡ false → asks.new ≡ asks.old }
     ensures before { result.1 ≡ owed_by connection.old }
     ensures after { result.2 ≡ owed_by connection.new }
@@ -67,7 +67,7 @@ impl<T: Transport + Drop> Slots<T> {
         ensures others { OthersStay slot self.old.items.items self.new.items.items }
         ensures nobody { IfNone result ((self.new.items.items ≡ self.old.items.items) × (asks.new ≡ asks.old)) }
         ensures empty { IfNone result (at_slot self.old.items.items slot ≡ None) }
-        ensures own { IfSome result (λ turned. HasTurn A.answers T.delivered T.accepted T.reads T.writes T.shuts may_ask now slot self.old.items.items asks.old self.new.items.items asks.new turned.next) }
+        ensures own { IfSome result (λ turned. HasTurn A.answers ⟦<T as Transport>⟧ may_ask now slot self.old.items.items asks.old self.new.items.items asks.new turned.next) }
         ensures unasked { IfSome result (λ turned. turned.asked ≡ false → asks.new ≡ asks.old) }
     {
         if slot >= self.items.len() {

@@ -47,7 +47,7 @@ impl<T: Transport + Drop> ConnectionTable<T> {
     ghost use Rattle.turns.specs.Runs.{HasRun, IsTurnOf};
     ghost use Rattle.turns.specs.Settling.{IsSettled};
     ghost use Rattle.turns.specs.Slots.{OthersStay, HasTurn};
-    ghost use Rattle.turns.specs.Table.{connections, ready_slots, waiting_slots, timeouts_of, room_of, has_room, KeepsReady, KeepsWaiting};
+    ghost use Rattle.turns.specs.Table.{connections, ready_slots, waiting_slots, timeouts_of, room_of, has_room, ClosedOrStayed, Goes, KeepsWaiting, LeftOrStayed};
     ghost use Rattle.turns.specs.Times.{deadline, is_unanswered};
     ghost use Rattle.turns.specs.declared.turn.Next.TheVariants.{Turn, Room};
 
@@ -105,9 +105,7 @@ impl<T: Transport + Drop> ConnectionTable<T> {
         ensures here { at_slot (connections self.new) slot ≡ Some connection }
         ensures others { OthersStay slot (connections self.old) (connections self.new) }
         ensures ready { has slot (ready_slots self.new) ≡ true }
-        ensures joins { (slots : List ℕ) × (ready_slots self.new ≡ joins (ready_slots self.old) slots) }
-        ensures keeps { KeepsWaiting self.old self.new }
-        ensures keeps_ready { KeepsReady self.old self.new }
+        ensures goes { Goes self.old self.new }
     {
         self.slots.put(slot, connection);
         self.ready.add(slot);
@@ -116,10 +114,8 @@ impl<T: Transport + Drop> ConnectionTable<T> {
     /// The connection at a slot may have something to do: it has a turn.
     pub fn wake(&mut self, slot: usize)
         ensures ready { slot < length (connections self.old) → has slot (ready_slots self.new) ≡ true }
-        ensures joins { (slots : List ℕ) × (ready_slots self.new ≡ joins (ready_slots self.old) slots) }
         ensures connections { connections self.new ≡ connections self.old }
-        ensures keeps { KeepsWaiting self.old self.new }
-        ensures keeps_ready { KeepsReady self.old self.new }
+        ensures goes { Goes self.old self.new }
     {
         self.ready.add(slot);
     }
@@ -137,10 +133,10 @@ impl<T: Transport + Drop> ConnectionTable<T> {
         ensures none { IfNone result ((connections self.new ≡ connections self.old) × (asks.new ≡ asks.old)) }
         ensures nobody { IfSome result (λ served. IfNone served.next ((connections self.new ≡ connections self.old) × (asks.new ≡ asks.old))) }
         ensures empty { IfSome result (λ served. IfNone served.next (at_slot (connections self.old) served.slot ≡ None)) }
-        ensures own { IfSome result (λ served. IfSome served.next (λ next. HasTurn A.answers T.delivered T.accepted T.reads T.writes T.shuts (has_room self.old) now served.slot (connections self.old) asks.old (connections self.new) asks.new next)) }
+        ensures own { IfSome result (λ served. IfSome served.next (λ next. HasTurn A.answers ⟦<T as Transport>⟧ (has_room self.old) now served.slot (connections self.old) asks.old (connections self.new) asks.new next)) }
         ensures others { IfSome result (λ served. OthersStay served.slot (connections self.old) (connections self.new)) }
-        ensures run { HasRun A.answers T.delivered T.accepted T.reads T.writes T.shuts self.old asks.old self.new asks.new }
-        ensures step { IfSome result (λ served. IsTurnOf A.answers T.delivered T.accepted T.reads T.writes T.shuts self.old asks.old served.slot served.next now self.new asks.new) }
+        ensures run { HasRun A.answers ⟦<T as Transport>⟧ self.old asks.old self.new asks.new }
+        ensures step { IfSome result (λ served. IsTurnOf A.answers ⟦<T as Transport>⟧ self.old asks.old served.slot served.next now self.new asks.new) }
         ensures once { IfSome result (λ _. (queries : List QueryOutcome) × HasAsked A.answers asks.old queries asks.new) }
         ensures unasked { IfSome result (λ served. served.asked ≡ false → asks.new ≡ asks.old) }
         ensures turns { IfSome result (λ served. served.next ≡ Some Turn → has served.slot (ready_slots self.new) ≡ true) }
@@ -168,12 +164,8 @@ impl<T: Transport + Drop> ConnectionTable<T> {
     // The connection at a slot leaves it.
     fn close(&mut self, slot: usize) -> Option<OpenConnection<T>>
         ensures taken { result ≡ at_slot (connections self.old) slot }
-        ensures left { at_slot (connections self.new) slot ≡ None }
-        ensures others { OthersStay slot (connections self.old) (connections self.new) }
-        ensures nobody { IfNone result (connections self.new ≡ connections self.old) }
-        ensures joins { (slots : List ℕ) × (ready_slots self.new ≡ joins (ready_slots self.old) slots) }
-        ensures keeps { KeepsWaiting self.old self.new }
-        ensures keeps_ready { KeepsReady self.old self.new }
+        ensures left { LeftOrStayed slot result self.old self.new }
+        ensures goes { Goes self.old self.new }
     {
         let connection = self.slots.take(slot);
         let has_room = self.slots.owed < self.room as u128;
@@ -185,13 +177,9 @@ impl<T: Transport + Drop> ConnectionTable<T> {
     /// the deadline of its phase.
     pub fn close_overdue(&mut self, slot: usize, now: u64) -> Option<OpenConnection<T>>
         ensures overdue { IfSome result (λ connection. deadline (timeouts_of self.old) connection.phase ≤ now) }
-        ensures closed { IfSome result (λ connection. (at_slot (connections self.old) slot ≡ Some connection) × (at_slot (connections self.new) slot ≡ None)) }
-        ensures stays { IfNone result (connections self.new ≡ connections self.old) }
+        ensures left { LeftOrStayed slot result self.old self.new }
         ensures in_time { IfNone result (IfSome (at_slot (connections self.old) slot) (λ connection. now < deadline (timeouts_of self.old) connection.phase)) }
-        ensures others { OthersStay slot (connections self.old) (connections self.new) }
-        ensures joins { (slots : List ℕ) × (ready_slots self.new ≡ joins (ready_slots self.old) slots) }
-        ensures keeps { KeepsWaiting self.old self.new }
-        ensures keeps_ready { KeepsReady self.old self.new }
+        ensures goes { Goes self.old self.new }
     {
         let phase = self.slots.phase(slot)?;
         if now < phase.deadline(&self.timeouts) {
@@ -203,13 +191,9 @@ impl<T: Transport + Drop> ConnectionTable<T> {
     /// The connection at a slot leaves it, if it is between requests or has sent a part of a head: for a worker that ends.
     pub fn close_unanswered(&mut self, slot: usize) -> Option<OpenConnection<T>>
         ensures unanswered { IfSome result (λ connection. is_unanswered connection.phase ≡ true) }
-        ensures closed { IfSome result (λ connection. (at_slot (connections self.old) slot ≡ Some connection) × (at_slot (connections self.new) slot ≡ None)) }
-        ensures stays { IfNone result (connections self.new ≡ connections self.old) }
+        ensures left { LeftOrStayed slot result self.old self.new }
         ensures answered { IfNone result (IfSome (at_slot (connections self.old) slot) (λ connection. is_unanswered connection.phase ≡ false)) }
-        ensures others { OthersStay slot (connections self.old) (connections self.new) }
-        ensures joins { (slots : List ℕ) × (ready_slots self.new ≡ joins (ready_slots self.old) slots) }
-        ensures keeps { KeepsWaiting self.old self.new }
-        ensures keeps_ready { KeepsReady self.old self.new }
+        ensures goes { Goes self.old self.new }
     {
         let phase = self.slots.phase(slot)?;
         if !phase.is_unanswered() {
@@ -249,13 +233,9 @@ impl<T: Transport + Drop> ConnectionTable<T> {
     // The connection that gives way first leaves, if one may.
     fn give_way(&mut self, pressure: Pressure) -> Option<Closed<T>>
         ensures first { IfSome result (λ closed. IsFirst pressure self.old closed.slot) }
-        ensures closed { IfSome result (λ closed. (at_slot (connections self.old) closed.slot ≡ Some closed.connection) × (at_slot (connections self.new) closed.slot ≡ None)) }
-        ensures others { IfSome result (λ closed. OthersStay closed.slot (connections self.old) (connections self.new)) }
-        ensures stays { IfNone result (connections self.new ≡ connections self.old) }
+        ensures left { ClosedOrStayed result self.old self.new }
         ensures none { IfNone result (NoneMay pressure self.old) }
-        ensures joins { (slots : List ℕ) × (ready_slots self.new ≡ joins (ready_slots self.old) slots) }
-        ensures keeps { KeepsWaiting self.old self.new }
-        ensures keeps_ready { KeepsReady self.old self.new }
+        ensures goes { Goes self.old self.new }
     {
         let slot = self.first(pressure)?;
         let connection = self.close(slot)?;
@@ -268,12 +248,8 @@ impl<T: Transport + Drop> ConnectionTable<T> {
     pub fn close_for_slot(&mut self, now: u64) -> Option<Closed<T>>
         ensures full { IfSome result (λ _. (slot : ℕ) → slot < length (connections self.old) → is_some (at_slot (connections self.old) slot) ≡ true) }
         ensures first { IfSome result (λ closed. IsFirst (pressure.Slot now) self.old closed.slot) }
-        ensures closed { IfSome result (λ closed. (at_slot (connections self.old) closed.slot ≡ Some closed.connection) × (at_slot (connections self.new) closed.slot ≡ None)) }
-        ensures others { IfSome result (λ closed. OthersStay closed.slot (connections self.old) (connections self.new)) }
-        ensures stays { IfNone result (connections self.new ≡ connections self.old) }
-        ensures joins { (slots : List ℕ) × (ready_slots self.new ≡ joins (ready_slots self.old) slots) }
-        ensures keeps { KeepsWaiting self.old self.new }
-        ensures keeps_ready { KeepsReady self.old self.new }
+        ensures left { ClosedOrStayed result self.old self.new }
+        ensures goes { Goes self.old self.new }
     {
         if self.free_slot().is_some() {
             return None;
@@ -284,13 +260,9 @@ impl<T: Transport + Drop> ConnectionTable<T> {
     /// Where no descriptor is free for a further connection, the one leaves that would leave for a slot, if there is one.
     pub fn close_for_descriptor(&mut self, now: u64) -> Option<Closed<T>>
         ensures first { IfSome result (λ closed. IsFirst (pressure.Slot now) self.old closed.slot) }
-        ensures closed { IfSome result (λ closed. (at_slot (connections self.old) closed.slot ≡ Some closed.connection) × (at_slot (connections self.new) closed.slot ≡ None)) }
-        ensures others { IfSome result (λ closed. OthersStay closed.slot (connections self.old) (connections self.new)) }
-        ensures stays { IfNone result (connections self.new ≡ connections self.old) }
+        ensures left { ClosedOrStayed result self.old self.new }
         ensures none { IfNone result (NoneMay (pressure.Slot now) self.old) }
-        ensures joins { (slots : List ℕ) × (ready_slots self.new ≡ joins (ready_slots self.old) slots) }
-        ensures keeps { KeepsWaiting self.old self.new }
-        ensures keeps_ready { KeepsReady self.old self.new }
+        ensures goes { Goes self.old self.new }
     {
         self.give_way(Pressure::Slot { now })
     }
@@ -302,12 +274,8 @@ impl<T: Transport + Drop> ConnectionTable<T> {
         ensures wanted { IfSome result (λ _. waiting_slots self.old ≡ [] → ⊥) }
         ensures none { IfNone result ((waiting_slots self.old ≡ []) ⊎ ((has_room self.old ≡ true) ⊎ NoneMay (pressure.Room now (timeouts_of self.old).rate) self.old)) }
         ensures first { IfSome result (λ closed. IsFirst (pressure.Room now (timeouts_of self.old).rate) self.old closed.slot) }
-        ensures closed { IfSome result (λ closed. (at_slot (connections self.old) closed.slot ≡ Some closed.connection) × (at_slot (connections self.new) closed.slot ≡ None)) }
-        ensures others { IfSome result (λ closed. OthersStay closed.slot (connections self.old) (connections self.new)) }
-        ensures stays { IfNone result (connections self.new ≡ connections self.old) }
-        ensures joins { (slots : List ℕ) × (ready_slots self.new ≡ joins (ready_slots self.old) slots) }
-        ensures keeps { KeepsWaiting self.old self.new }
-        ensures keeps_ready { KeepsReady self.old self.new }
+        ensures left { ClosedOrStayed result self.old self.new }
+        ensures goes { Goes self.old self.new }
     {
         if self.waiting.is_empty() || self.slots.owed < self.room as u128 {
             return None;

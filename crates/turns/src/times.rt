@@ -1,5 +1,5 @@
 ghost use Rattle.std.specs.Prelude.{◌≡◌};
-ghost use Rattle.turns.specs.Times.{deadline, phase_after, is_over, is_unanswered, still_until, time_of};
+ghost use Rattle.turns.specs.Times.{answering, deadline, heading, phase_after, is_over, is_unanswered, still_until, time_of};
 
 use crate::{Next, TurnResult};
 
@@ -94,35 +94,32 @@ impl Phase {
         )
     }
 
-    /// The phase of a connection after a turn, where some or no bytes are still to be sent.
-    pub(crate) fn after(self, turned: TurnResult, owes: bool, now: u64) -> Self
-        ensures { result ≡ phase_after self turned owes now }
+    // The phase while bytes of an answer are still to be sent, so many of which were sent now.
+    fn answering(self, sent: usize, now: u64) -> Self
+        ensures { result ≡ answering self sent now }
     {
-        match turned.next {
-            Next::Done => return Phase::Drain { since: now },
-            Next::Failed => return Phase::Over,
-            _ => {}
+        match self {
+            Phase::Answer {
+                since,
+                moved,
+                sent: before,
+            } => Phase::Answer {
+                since,
+                moved: if sent == 0 { moved } else { now },
+                sent: before.saturating_add(sent as u64),
+            },
+            _ => Phase::Answer {
+                since: now,
+                moved: now,
+                sent: sent as u64,
+            },
         }
-        if owes {
-            return match self {
-                Phase::Answer { since, moved, sent } => Phase::Answer {
-                    since,
-                    moved: if turned.sent == 0 { moved } else { now },
-                    sent: sent.saturating_add(turned.sent as u64),
-                },
-                _ => Phase::Answer {
-                    since: now,
-                    moved: now,
-                    sent: turned.sent as u64,
-                },
-            };
-        }
-        if turned.sent > 0 {
-            return Phase::Idle { since: now };
-        }
-        if turned.next != Next::Turn && turned.next != Next::Room {
-            return self;
-        }
+    }
+
+    // The phase while a head is read, bytes of which came now.
+    fn heading(self, now: u64) -> Self
+        ensures { result ≡ heading self now }
+    {
         match self {
             Phase::Opened { .. } | Phase::Idle { .. } => Phase::Head {
                 since: now,
@@ -130,6 +127,20 @@ impl Phase {
             },
             Phase::Head { since, .. } => Phase::Head { since, moved: now },
             other => other,
+        }
+    }
+
+    /// The phase of a connection after a turn, where some or no bytes are still to be sent.
+    pub(crate) fn after(self, turned: TurnResult, owes: bool, now: u64) -> Self
+        ensures { result ≡ phase_after self turned owes now }
+    {
+        match turned.next {
+            Next::Done => Phase::Drain { since: now },
+            Next::Failed => Phase::Over,
+            _ if owes => self.answering(turned.sent, now),
+            _ if turned.sent > 0 => Phase::Idle { since: now },
+            Next::Turn | Next::Room => self.heading(now),
+            _ => self,
         }
     }
 }

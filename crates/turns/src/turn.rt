@@ -54,7 +54,7 @@ impl TurnResult {
 
 // Sends the bytes that are to be sent, as many as are taken at once.
 fn send<T: Transport>(exchange: &mut BufferedSession, transport: &mut T) -> WriteOutcome
-    ensures sends { Sends T.delivered T.accepted exchange.old transport.old exchange.new transport.new (count_of result) }
+    ensures sends { Sends ⟦<T as Transport>⟧ exchange.old transport.old exchange.new transport.new (count_of result) }
     ensures writes { T.writes transport.old result transport.new }
     ensures some { result ≡ Bytes 0 → ⊥ }
     ensures waits { result ≡ write.WouldBlock → exchange.new ≡ exchange.old }
@@ -77,8 +77,8 @@ fn send<T: Transport>(exchange: &mut BufferedSession, transport: &mut T) -> Writ
 fn send_on<T: Transport>(exchange: &mut BufferedSession, transport: &mut T) -> TurnResult
     requires owes { exchange.old.session.outgoing ≢ [] }
     ensures calls { WritesOnce T.writes transport.old transport.new }
-    ensures sends { Sends T.delivered T.accepted exchange.old transport.old exchange.new transport.new result.sent }
-    ensures next { (may_ask : Bool) → IsNext T.reads T.writes may_ask result.next exchange.new transport.new }
+    ensures sends { Sends ⟦<T as Transport>⟧ exchange.old transport.old exchange.new transport.new result.sent }
+    ensures next { (may_ask : Bool) → IsNext ⟦<T as Transport>⟧ may_ask result.next exchange.new transport.new }
     ensures sent { result.next ≡ Turn → 0 < result.sent }
     ensures less { length exchange.new.session.outgoing ≤ length exchange.old.session.outgoing }
 {
@@ -100,7 +100,7 @@ fn send_on<T: Transport>(exchange: &mut BufferedSession, transport: &mut T) -> T
 // Reads once, where the buffer is empty.
 fn receive<T: Transport>(exchange: &mut BufferedSession, transport: &mut T) -> ReadOutcome
     requires wanted { wants exchange.old.session ≡ true }
-    ensures receives { Receives T.delivered T.accepted exchange.old transport.old exchange.new transport.new }
+    ensures receives { Receives ⟦<T as Transport>⟧ exchange.old transport.old exchange.new transport.new }
     ensures calls { ReadsOnce T.reads transport.old transport.new }
     ensures comes { (n : ℕ) → result ≡ read.Bytes n → exchange.new.buffer ≢ [] }
     ensures none { result ≡ WouldBlock → exchange.new.buffer ≡ [] }
@@ -147,8 +147,8 @@ fn take<T: Transport, A: Asks>(
     may_ask: bool,
 ) -> Option<Next>
     requires wanted { wants exchange.old.session ≡ true }
-    ensures advances { Advances A.answers T.delivered T.accepted exchange.old transport.old asks.old exchange.new transport.new asks.new 0 }
-    ensures next { IfSome result (λ next. IsNext T.reads T.writes may_ask next exchange.new transport.new) }
+    ensures advances { Advances A.answers ⟦<T as Transport>⟧ exchange.old transport.old asks.old exchange.new transport.new asks.new 0 }
+    ensures next { IfSome result (λ next. IsNext ⟦<T as Transport>⟧ may_ask next exchange.new transport.new) }
     ensures taken { result ≡ None → wants exchange.new.session ≡ true → HasTaken T.reads exchange.old transport.old exchange.new transport.new }
     ensures turns { result ≡ Some Turn → ⊥ }
     ensures calls { ReadsOnce T.reads transport.old transport.new }
@@ -179,8 +179,8 @@ fn take_on<T: Transport, A: Asks>(
     asks: &mut A,
     may_ask: bool,
 ) -> Option<Next>
-    ensures advances { Advances A.answers T.delivered T.accepted exchange.old transport.old asks.old exchange.new transport.new asks.new 0 }
-    ensures next { IfSome result (λ next. IsNext T.reads T.writes may_ask next exchange.new transport.new) }
+    ensures advances { Advances A.answers ⟦<T as Transport>⟧ exchange.old transport.old asks.old exchange.new transport.new asks.new 0 }
+    ensures next { IfSome result (λ next. IsNext ⟦<T as Transport>⟧ may_ask next exchange.new transport.new) }
     ensures unasked { may_ask ≡ false → exchange.new.session ≡ exchange.old.session }
     ensures silent { may_ask ≡ false → asks.new ≡ asks.old }
     ensures answering { wants exchange.old.session ≡ false → asks.new ≡ asks.old }
@@ -219,9 +219,9 @@ pub fn serve_turn<T: Transport, A: Asks>(
     asks: &mut A,
     may_ask: bool,
 ) -> TurnResult
-    ensures advances { Advances A.answers T.delivered T.accepted exchange.old transport.old asks.old exchange.new transport.new asks.new result.sent }
-    ensures next { IsNext T.reads T.writes may_ask result.next exchange.new transport.new }
-    ensures calls { Calls T.reads T.writes transport.old transport.new }
+    ensures advances { Advances A.answers ⟦<T as Transport>⟧ exchange.old transport.old asks.old exchange.new transport.new asks.new result.sent }
+    ensures next { IsNext ⟦<T as Transport>⟧ may_ask result.next exchange.new transport.new }
+    ensures calls { Calls ⟦<T as Transport>⟧ transport.old transport.new }
     ensures moves { result.next ≡ Turn → (0 < result.sent) ⊎ HasTaken T.reads exchange.old transport.old exchange.new transport.new }
     ensures no_more { may_ask ≡ false → length exchange.new.session.outgoing ≤ length exchange.old.session.outgoing }
     ensures silent { may_ask ≡ false → asks.new ≡ asks.old }

@@ -10,7 +10,7 @@ returns-in-Batch c fits =
     let rest = c.split_at.result.1.now in
     let after = take (length rest - 1) (drop 1 rest) in
     let enough : c.in-Batch.count ≤ length after = grind (arith, common_steps, fits) in
-    let short : c.line_len.result < 33 = omega (arith, c.if-line-lt-LINE.true, c.split_at.ensures.front_len) in
+    let short : c.line_len.result < 33 = omega (arith, c.if-line-lt-MAX_LINE_BYTES.true, c.split_at.ensures.front_len) in
     let says : line.Batch c.in-Batch.count ≡ line_of (take c.line_len.result c.args.bytes.now) = sym c.in-Batch.is ∙ (c.line_of.ensures ∙ ap line_of c.split_at.ensures.front) in (
       take c.in-Batch.count after,
       drop c.in-Batch.count after,

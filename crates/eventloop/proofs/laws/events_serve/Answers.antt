@@ -2,4 +2,4 @@ use Rattle.eventloop.proofs.Events.{events-serve}
 use Rattle.eventloop.proofs.laws.events_serve.Goals as goal
 
 pub returns : goal.returns
-returns g c = events-serve g.A.Asks.answers g.T.Transport.delivered g.T.Transport.accepted g.T.Transport.reads g.T.Transport.writes g.T.Transport.shuts
+returns g c = events-serve g.A.Asks.answers g.T.Transport

@@ -3,4 +3,4 @@ use Rattle.eventloop.proofs.worker.run.Given as goal
 
 -- the table made some steps
 abbrev pub invariant-loop : goal.invariant-loop
-invariant-loop g l = HasRun g.A.Asks.answers g.T.Transport.delivered g.T.Transport.accepted g.T.Transport.reads g.T.Transport.writes g.T.Transport.shuts l.fn.worker.table l.fn.worker.asks l.worker.table l.worker.asks
+invariant-loop g l = HasRun g.A.Asks.answers g.T.Transport l.fn.worker.table l.fn.worker.asks l.worker.table l.worker.asks

@@ -6,4 +6,4 @@ abbrev pub invariant-loop-reader : goal.invariant-loop-reader
 invariant-loop-reader g l =
     (goal.iterator-loop-reader g).can_next l.reader-iterator ×
     (goal.iterator-loop-reader g).is_finite l.reader-iterator ×
-    (BeganWith l.fn.limits.times l.fn.workers.threads.items → BeganWith l.fn.limits.times l.workers.threads.items)
+    (BeganWith l.fn.capacity.timeouts l.fn.workers.threads.items → BeganWith l.fn.capacity.timeouts l.workers.threads.items)

@@ -3,4 +3,4 @@ use Rattle.turns.proofs.Runs.{runs-answer}
 use Rattle.turns.proofs.laws.runs_answer.Goals as goal
 
 pub returns : goal.returns
-returns g c = runs-answer g.A.Asks.answers g.T.Transport.delivered g.T.Transport.accepted g.T.Transport.reads g.T.Transport.writes g.T.Transport.shuts law-starts
+returns g c = runs-answer g.A.Asks.answers g.T.Transport law-starts

@@ -4,5 +4,5 @@ use Rattle.eventloop.proofs.worker.Worker.close_unanswered.Goals as goal
 
 pub loop-slot-preserved : goal.loop-slot-preserved
 loop-slot-preserved g c =
-    run-then g.A.Asks.answers g.T.Transport.delivered g.T.Transport.accepted g.T.Transport.reads g.T.Transport.writes g.T.Transport.shuts c.args.self.now.table c.loop-slot.self.table c.close_unanswered.new.self c.args.self.now.asks c.loop-slot.self.asks c.loop-slot.self.asks c.loop-slot.invariant
-    (unanswered-run g.A.Asks.answers g.T.Transport.delivered g.T.Transport.accepted g.T.Transport.reads g.T.Transport.writes g.T.Transport.shuts c.loop-slot.slot c.loop-slot.self.table c.close_unanswered.new.self c.loop-slot.self.asks c.close_unanswered.result c.close_unanswered.ensures.unanswered c.close_unanswered.ensures.closed c.close_unanswered.ensures.stays c.close_unanswered.ensures.others c.close_unanswered.ensures.joins c.close_unanswered.ensures.keeps)
+    run-then g.A.Asks.answers g.T.Transport c.args.self.now.table c.loop-slot.self.table c.close_unanswered.new.self c.args.self.now.asks c.loop-slot.self.asks c.loop-slot.self.asks c.loop-slot.invariant
+    (unanswered-run g.A.Asks.answers g.T.Transport c.loop-slot.slot c.loop-slot.self.table c.close_unanswered.new.self c.loop-slot.self.asks c.close_unanswered.result c.close_unanswered.ensures.unanswered c.close_unanswered.ensures.left c.close_unanswered.ensures.goes)

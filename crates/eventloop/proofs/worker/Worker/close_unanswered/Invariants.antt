@@ -3,4 +3,4 @@ use Rattle.eventloop.proofs.worker.Worker.close_unanswered.Given as goal
 
 -- the table made some steps
 abbrev pub invariant-loop-slot : goal.invariant-loop-slot
-invariant-loop-slot g l = HasRun g.A.Asks.answers g.T.Transport.delivered g.T.Transport.accepted g.T.Transport.reads g.T.Transport.writes g.T.Transport.shuts l.fn.self.table l.fn.self.asks l.self.table l.self.asks
+invariant-loop-slot g l = HasRun g.A.Asks.answers g.T.Transport l.fn.self.table l.fn.self.asks l.self.table l.self.asks

@@ -5,9 +5,9 @@ use Rattle.eventloop.proofs.worker.Worker.look.Goals as goal
 
 pub loop-slot-preserved : goal.loop-slot-preserved
 loop-slot-preserved g c = (
-  run-then g.A.Asks.answers g.T.Transport.delivered g.T.Transport.accepted g.T.Transport.reads g.T.Transport.writes g.T.Transport.shuts c.args.self.now.table c.loop-slot.self.table c.close_overdue.new.self.table c.args.self.now.asks c.loop-slot.self.asks c.close_overdue.new.self.asks c.loop-slot.invariant.0 c.close_overdue.ensures.run,
-  goes-then c.args.self.now.table c.loop-slot.self.table c.close_overdue.new.self.table c.loop-slot.invariant.1 (record { keeps = c.close_overdue.ensures.keeps; joins = c.close_overdue.ensures.joins }),
-  in-time-next c.args.self.now.now c.loop-slot.self.now c.loop-slot.slot c.loop-slot.self.table c.close_overdue.new.self.table c.loop-slot.invariant.2 c.close_overdue.ensures.others c.close_overdue.ensures.keeps.timeouts c.loop-slot.invariant.3 c.close_overdue.ensures.in_time,
+  run-then g.A.Asks.answers g.T.Transport c.args.self.now.table c.loop-slot.self.table c.close_overdue.new.self.table c.args.self.now.asks c.loop-slot.self.asks c.close_overdue.new.self.asks c.loop-slot.invariant.0 c.close_overdue.ensures.run,
+  goes-then c.args.self.now.table c.loop-slot.self.table c.close_overdue.new.self.table c.loop-slot.invariant.1 c.close_overdue.ensures.goes,
+  in-time-next c.args.self.now.now c.loop-slot.self.now c.loop-slot.slot c.loop-slot.self.table c.close_overdue.new.self.table c.loop-slot.invariant.2 c.close_overdue.ensures.others c.close_overdue.ensures.goes.keeps.timeouts c.loop-slot.invariant.3 c.close_overdue.ensures.in_time,
   c.close_overdue.ensures.now ∙ c.loop-slot.invariant.3,
   c.loop-slot.invariant.4,
 )

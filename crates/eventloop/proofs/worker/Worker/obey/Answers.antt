@@ -3,7 +3,7 @@ use Rattle.turns.specs.declared.pressure.Pressure.TheVariants.{Slot}
 use Rattle.eventloop.proofs.worker.Worker.obey.Goals as goal
 
 pub returns-in-Some-clause-run : goal.returns-in-Some-clause-run
-returns-in-Some-clause-run g c = obeyed-run g.A.Asks.answers g.T.Transport.delivered g.T.Transport.accepted g.T.Transport.reads g.T.Transport.writes g.T.Transport.shuts (Slot c.args.self.now.now) c.args.self.now.table c.obey-ending.new.table c.args.self.now.asks c.args.orders.is_pressed c.obey-ending.ensures.pressed
+returns-in-Some-clause-run g c = obeyed-run g.A.Asks.answers g.T.Transport (Slot c.args.self.now.now) c.args.self.now.table c.obey-ending.new.table c.args.self.now.asks c.args.orders.is_pressed c.obey-ending.ensures.pressed
 
 pub returns-in_default-clause-run : goal.returns-in_default-clause-run
-returns-in_default-clause-run g c = obeyed-run g.A.Asks.answers g.T.Transport.delivered g.T.Transport.accepted g.T.Transport.reads g.T.Transport.writes g.T.Transport.shuts (Slot c.args.self.now.now) c.args.self.now.table c.obey-ending.new.table c.args.self.now.asks c.args.orders.is_pressed c.obey-ending.ensures.pressed
+returns-in_default-clause-run g c = obeyed-run g.A.Asks.answers g.T.Transport (Slot c.args.self.now.now) c.args.self.now.table c.obey-ending.new.table c.args.self.now.asks c.args.orders.is_pressed c.obey-ending.ensures.pressed

@@ -4,8 +4,8 @@ use Rattle.eventloop.proofs.worker.Worker.open.Goals as goal
 
 pub returns-in-Ok-clause-run : goal.returns-in-Ok-clause-run
 returns-in-Ok-clause-run g c =
-    opens-run g.A.Asks.answers g.T.Transport.delivered g.T.Transport.accepted g.T.Transport.reads g.T.Transport.writes g.T.Transport.shuts c.args.slot c.in-Ok.connection c.args.self.now.table c.open.new.self c.args.self.now.asks (record { session = c.in-Ok.ensures.session; buffer = c.in-Ok.ensures.buffer })
-    c.open.ensures.here c.open.ensures.others c.open.ensures.ready c.open.ensures.joins c.open.ensures.keeps
+    opens-run g.A.Asks.answers g.T.Transport c.args.slot c.in-Ok.connection c.args.self.now.table c.open.new.self c.args.self.now.asks (record { session = c.in-Ok.ensures.session; buffer = c.in-Ok.ensures.buffer })
+    c.open.ensures.here c.open.ensures.others c.open.ensures.ready c.open.ensures.goes
 
 pub returns-in-Ok-clause-opened : goal.returns-in-Ok-clause-opened
 returns-in-Ok-clause-opened g c = inr (c.in-Ok.connection, c.open.ensures.here, c.in-Ok.ensures.phase)

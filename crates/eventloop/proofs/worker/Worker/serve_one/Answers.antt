@@ -5,7 +5,7 @@ use Rattle.eventloop.proofs.worker.Worker.serve_one.Goals as goal
 
 pub returns-clause-turn : goal.returns-clause-turn
 returns-clause-turn g c =
-    turn-turned g.A.Asks.answers g.T.Transport.delivered g.T.Transport.accepted g.T.Transport.reads g.T.Transport.writes g.T.Transport.shuts c.in_ok-served.served.slot c.args.self.now.now c.in_ok-served.served.next c.args.self.now.table c.serve_next.new.self c.leave.new.self.table c.args.self.now.asks c.serve_next.new.asks c.leave.new.self.asks c.in_ok-served.ensures.step c.leave.ensures.run
+    turn-turned g.A.Asks.answers g.T.Transport c.in_ok-served.served.slot c.args.self.now.now c.in_ok-served.served.next c.args.self.now.table c.serve_next.new.self c.leave.new.self.table c.args.self.now.asks c.serve_next.new.asks c.leave.new.self.asks c.in_ok-served.ensures.step c.leave.ensures.run
 
 pub returns-clause-once : goal.returns-clause-once
 returns-clause-once g c =

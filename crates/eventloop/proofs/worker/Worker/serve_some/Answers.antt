@@ -6,31 +6,31 @@ use Rattle.eventloop.proofs.worker.Worker.serve_some.Goals as goal
 
 pub loop-preserved : goal.loop-preserved
 loop-preserved g c = (
-  turned-then g.A.Asks.answers g.T.Transport.delivered g.T.Transport.accepted g.T.Transport.reads g.T.Transport.writes g.T.Transport.shuts c.loop.counter 1 c.args.self.now.table c.loop.self.table c.serve_one.new.self.table c.args.self.now.asks c.loop.self.asks c.serve_one.new.self.asks c.loop.invariant.0 c.in-Some-false.ensures.turn,
+  turned-then g.A.Asks.answers g.T.Transport c.loop.counter 1 c.args.self.now.table c.loop.self.table c.serve_one.new.self.table c.args.self.now.asks c.loop.self.asks c.serve_one.new.self.asks c.loop.invariant.0 c.in-Some-false.ensures.turn,
   c.serve_one.ensures.now ∙ c.loop.invariant.1,
   c.in-Some-false.ensures.unasked (search rules) ∙ c.loop.invariant.2,
 )
 
 pub returns-in-None-clause-turns : goal.returns-in-None-clause-turns
 returns-in-None-clause-turns g c =
-    inr (c.loop.self.table, c.loop.self.asks, turned-run g.A.Asks.answers g.T.Transport.delivered g.T.Transport.accepted g.T.Transport.reads g.T.Transport.writes g.T.Transport.shuts c.loop.counter c.args.self.now.table c.loop.self.table c.args.self.now.asks c.loop.self.asks c.loop.invariant.0, c.in-None.ensures.turn.0, c.in-None.ensures.turn.1)
+    inr (c.loop.self.table, c.loop.self.asks, turned-run g.A.Asks.answers g.T.Transport c.loop.counter c.args.self.now.table c.loop.self.table c.args.self.now.asks c.loop.self.asks c.loop.invariant.0, c.in-None.ensures.turn.0, c.in-None.ensures.turn.1)
 
 pub returns-in-None-clause-run : goal.returns-in-None-clause-run
 returns-in-None-clause-run g c =
-    run-then g.A.Asks.answers g.T.Transport.delivered g.T.Transport.accepted g.T.Transport.reads g.T.Transport.writes g.T.Transport.shuts c.args.self.now.table c.loop.self.table c.serve_one.new.self.table c.args.self.now.asks c.loop.self.asks c.serve_one.new.self.asks (turned-run g.A.Asks.answers g.T.Transport.delivered g.T.Transport.accepted g.T.Transport.reads g.T.Transport.writes g.T.Transport.shuts c.loop.counter c.args.self.now.table c.loop.self.table c.args.self.now.asks c.loop.self.asks c.loop.invariant.0) c.in-None.ensures.turn.1
+    run-then g.A.Asks.answers g.T.Transport c.args.self.now.table c.loop.self.table c.serve_one.new.self.table c.args.self.now.asks c.loop.self.asks c.serve_one.new.self.asks (turned-run g.A.Asks.answers g.T.Transport c.loop.counter c.args.self.now.table c.loop.self.table c.args.self.now.asks c.loop.self.asks c.loop.invariant.0) c.in-None.ensures.turn.1
 
 pub returns-in-None-clause-once : goal.returns-in-None-clause-once
 returns-in-None-clause-once g c = ([], inl (refl, c.in-None.ensures.unasked ∙ c.loop.invariant.2))
 
 pub returns-in-Some-true-clause-turns : goal.returns-in-Some-true-clause-turns
 returns-in-Some-true-clause-turns g c =
-    turned-fewer g.A.Asks.answers g.T.Transport.delivered g.T.Transport.accepted g.T.Transport.reads g.T.Transport.writes g.T.Transport.shuts (c.loop.counter + 1) 1 c.args.self.now.table c.serve_one.new.self.table c.args.self.now.asks c.serve_one.new.self.asks (omega arith)
-    (turned-then g.A.Asks.answers g.T.Transport.delivered g.T.Transport.accepted g.T.Transport.reads g.T.Transport.writes g.T.Transport.shuts c.loop.counter 1 c.args.self.now.table c.loop.self.table c.serve_one.new.self.table c.args.self.now.asks c.loop.self.asks c.serve_one.new.self.asks c.loop.invariant.0 c.in-Some-true.ensures.turn)
+    turned-fewer g.A.Asks.answers g.T.Transport (c.loop.counter + 1) 1 c.args.self.now.table c.serve_one.new.self.table c.args.self.now.asks c.serve_one.new.self.asks (omega arith)
+    (turned-then g.A.Asks.answers g.T.Transport c.loop.counter 1 c.args.self.now.table c.loop.self.table c.serve_one.new.self.table c.args.self.now.asks c.loop.self.asks c.serve_one.new.self.asks c.loop.invariant.0 c.in-Some-true.ensures.turn)
 
 pub returns-in-Some-true-clause-run : goal.returns-in-Some-true-clause-run
 returns-in-Some-true-clause-run g c =
-    turned-run g.A.Asks.answers g.T.Transport.delivered g.T.Transport.accepted g.T.Transport.reads g.T.Transport.writes g.T.Transport.shuts (c.loop.counter + 1) c.args.self.now.table c.serve_one.new.self.table c.args.self.now.asks c.serve_one.new.self.asks
-    (turned-then g.A.Asks.answers g.T.Transport.delivered g.T.Transport.accepted g.T.Transport.reads g.T.Transport.writes g.T.Transport.shuts c.loop.counter 1 c.args.self.now.table c.loop.self.table c.serve_one.new.self.table c.args.self.now.asks c.loop.self.asks c.serve_one.new.self.asks c.loop.invariant.0 c.in-Some-true.ensures.turn)
+    turned-run g.A.Asks.answers g.T.Transport (c.loop.counter + 1) c.args.self.now.table c.serve_one.new.self.table c.args.self.now.asks c.serve_one.new.self.asks
+    (turned-then g.A.Asks.answers g.T.Transport c.loop.counter 1 c.args.self.now.table c.loop.self.table c.serve_one.new.self.table c.args.self.now.asks c.loop.self.asks c.serve_one.new.self.asks c.loop.invariant.0 c.in-Some-true.ensures.turn)
 
 pub returns-in-Some-true-clause-once : goal.returns-in-Some-true-clause-once
 returns-in-Some-true-clause-once g c =

@@ -4,12 +4,12 @@ use Rattle.turns.proofs.Runs.{run-then}
 use Rattle.eventloop.proofs.worker.Worker.take_over.Goals as goal
 
 pub returns-in_default-free_slot-clause-run : goal.returns-in_default-free_slot-clause-run
-returns-in_default-free_slot-clause-run g c = gave-way-run g.A.Asks.answers g.T.Transport.delivered g.T.Transport.accepted g.T.Transport.reads g.T.Transport.writes g.T.Transport.shuts (Slot c.args.self.now.now) c.args.self.now.table c.close_for_slot.new.self c.args.self.now.asks c.close_for_slot.result c.close_for_slot.ensures.first (unneeded c.close_for_slot.result) c.close_for_slot.ensures.closed c.close_for_slot.ensures.stays c.close_for_slot.ensures.others c.close_for_slot.ensures.joins c.close_for_slot.ensures.keeps
+returns-in_default-free_slot-clause-run g c = gave-way-run g.A.Asks.answers g.T.Transport (Slot c.args.self.now.now) c.args.self.now.table c.close_for_slot.new.self c.args.self.now.asks c.close_for_slot.result c.close_for_slot.ensures.first (unneeded c.close_for_slot.result) c.close_for_slot.ensures.left c.close_for_slot.ensures.goes
 
 pub returns-in_default-take-clause-run : goal.returns-in_default-take-clause-run
-returns-in_default-take-clause-run g c = gave-way-run g.A.Asks.answers g.T.Transport.delivered g.T.Transport.accepted g.T.Transport.reads g.T.Transport.writes g.T.Transport.shuts (Slot c.args.self.now.now) c.args.self.now.table c.close_for_slot.new.self c.args.self.now.asks c.close_for_slot.result c.close_for_slot.ensures.first (unneeded c.close_for_slot.result) c.close_for_slot.ensures.closed c.close_for_slot.ensures.stays c.close_for_slot.ensures.others c.close_for_slot.ensures.joins c.close_for_slot.ensures.keeps
+returns-in_default-take-clause-run g c = gave-way-run g.A.Asks.answers g.T.Transport (Slot c.args.self.now.now) c.args.self.now.table c.close_for_slot.new.self c.args.self.now.asks c.close_for_slot.result c.close_for_slot.ensures.first (unneeded c.close_for_slot.result) c.close_for_slot.ensures.left c.close_for_slot.ensures.goes
 
 pub returns-clause-run : goal.returns-clause-run
 returns-clause-run g c =
-    run-then g.A.Asks.answers g.T.Transport.delivered g.T.Transport.accepted g.T.Transport.reads g.T.Transport.writes g.T.Transport.shuts c.args.self.now.table c.close_for_slot.new.self c.open.new.self.table c.args.self.now.asks c.args.self.now.asks c.open.new.self.asks
-    (gave-way-run g.A.Asks.answers g.T.Transport.delivered g.T.Transport.accepted g.T.Transport.reads g.T.Transport.writes g.T.Transport.shuts (Slot c.args.self.now.now) c.args.self.now.table c.close_for_slot.new.self c.args.self.now.asks c.close_for_slot.result c.close_for_slot.ensures.first (unneeded c.close_for_slot.result) c.close_for_slot.ensures.closed c.close_for_slot.ensures.stays c.close_for_slot.ensures.others c.close_for_slot.ensures.joins c.close_for_slot.ensures.keeps) c.open.ensures.run
+    run-then g.A.Asks.answers g.T.Transport c.args.self.now.table c.close_for_slot.new.self c.open.new.self.table c.args.self.now.asks c.args.self.now.asks c.open.new.self.asks
+    (gave-way-run g.A.Asks.answers g.T.Transport (Slot c.args.self.now.now) c.args.self.now.table c.close_for_slot.new.self c.args.self.now.asks c.close_for_slot.result c.close_for_slot.ensures.first (unneeded c.close_for_slot.result) c.close_for_slot.ensures.left c.close_for_slot.ensures.goes) c.open.ensures.run

@@ -4,4 +4,4 @@ use Rattle.eventloop.proofs.worker.Worker.take_over_all.Given as goal
 
 -- the table made some steps
 abbrev pub invariant-loop : goal.invariant-loop
-invariant-loop g l = HasRun g.A.Asks.answers g.T.Transport.delivered g.T.Transport.accepted g.T.Transport.reads g.T.Transport.writes g.T.Transport.shuts l.fn.self.table l.fn.self.asks l.self.table l.self.asks × (l.self.now ≡ l.fn.self.now)
+invariant-loop g l = HasRun g.A.Asks.answers g.T.Transport l.fn.self.table l.fn.self.asks l.self.table l.self.asks × (l.self.now ≡ l.fn.self.now)

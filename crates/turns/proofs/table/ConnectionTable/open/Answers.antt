@@ -1,5 +1,9 @@
+use Rattle.std.proofs.Common.{rules}
 use Rattle.turns.proofs.Order.{add-joins}
 use Rattle.turns.proofs.table.ConnectionTable.open.Goals as goal
 
-pub returns-clause-joins : goal.returns-clause-joins
-returns-clause-joins g c = add-joins c.args.self.now.ready c.add.new.self c.args.slot c.add.ensures.joins c.add.ensures.none
+pub returns-clause-goes : goal.returns-clause-goes
+returns-clause-goes g c = record {
+  keeps = search rules;
+  joins = add-joins c.args.self.now.ready c.add.new.self c.args.slot c.add.ensures.joins c.add.ensures.none;
+}

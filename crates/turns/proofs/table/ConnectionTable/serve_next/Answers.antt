@@ -12,8 +12,8 @@ returns-clause-first g c =
 
 pub returns-clause-once : goal.returns-clause-once
 returns-clause-once g c =
-    turned-asks g.A.Asks.answers g.T.Transport.delivered g.T.Transport.accepted g.T.Transport.reads g.T.Transport.writes g.T.Transport.shuts c.args.self.now c.turn-turned.new.self.items.items c.args.asks.now c.turn-turned.new.asks c.in_ok-slot.slot _ c.args.now
-    (turned-by g.A.Asks.answers g.T.Transport.delivered g.T.Transport.accepted g.T.Transport.reads g.T.Transport.writes g.T.Transport.shuts c.args.self.now c.turn-turned.new.self.items.items c.args.asks.now c.turn-turned.new.asks c.in_ok-slot.slot c.turn-turned.result c.args.now c.turn-turned.ensures.nobody c.turn-turned.ensures.empty c.turn-turned.ensures.own)
+    turned-asks g.A.Asks.answers g.T.Transport c.args.self.now c.turn-turned.new.self.items.items c.args.asks.now c.turn-turned.new.asks c.in_ok-slot.slot _ c.args.now
+    (turned-by g.A.Asks.answers g.T.Transport c.args.self.now c.turn-turned.new.self.items.items c.args.asks.now c.turn-turned.new.asks c.in_ok-slot.slot c.turn-turned.result c.args.now c.turn-turned.ensures.nobody c.turn-turned.ensures.empty c.turn-turned.ensures.own)
 
 pub returns-clause-step : goal.returns-clause-step
 returns-clause-step g c =
@@ -23,8 +23,8 @@ returns-clause-step g c =
       slots = slots;
       first = first;
       later = later;
-      own = subst (λ (o : Option Next). Turned g.A.Asks.answers g.T.Transport.delivered g.T.Transport.accepted g.T.Transport.reads g.T.Transport.writes g.T.Transport.shuts c.args.self.now c.args.asks.now c.in_ok-slot.slot o c.args.now c.turn-turned.new.self.items.items c.turn-turned.new.asks) (sym c.next_of-next.ensures)
-          (turned-by g.A.Asks.answers g.T.Transport.delivered g.T.Transport.accepted g.T.Transport.reads g.T.Transport.writes g.T.Transport.shuts c.args.self.now c.turn-turned.new.self.items.items c.args.asks.now c.turn-turned.new.asks c.in_ok-slot.slot c.turn-turned.result c.args.now c.turn-turned.ensures.nobody c.turn-turned.ensures.empty c.turn-turned.ensures.own);
+      own = subst (λ (o : Option Next). Turned g.A.Asks.answers g.T.Transport c.args.self.now c.args.asks.now c.in_ok-slot.slot o c.args.now c.turn-turned.new.self.items.items c.turn-turned.new.asks) (sym c.next_of-next.ensures)
+          (turned-by g.A.Asks.answers g.T.Transport c.args.self.now c.turn-turned.new.self.items.items c.args.asks.now c.turn-turned.new.asks c.in_ok-slot.slot c.turn-turned.result c.args.now c.turn-turned.ensures.nobody c.turn-turned.ensures.empty c.turn-turned.ensures.own);
       others = c.turn-turned.ensures.others;
       turns = search rules;
       waits = search rules;
@@ -33,4 +33,4 @@ returns-clause-step g c =
 
 pub returns-clause-run : goal.returns-clause-run
 returns-clause-run g c =
-    run-step g.A.Asks.answers g.T.Transport.delivered g.T.Transport.accepted g.T.Transport.reads g.T.Transport.writes g.T.Transport.shuts (Serves c.in_ok-slot.slot c.next_of-next.result c.args.now) _ _ _ _ (returns-clause-step g c)
+    run-step g.A.Asks.answers g.T.Transport (Serves c.in_ok-slot.slot c.next_of-next.result c.args.now) _ _ _ _ (returns-clause-step g c)

@@ -5,7 +5,7 @@ use Rattle.network.proofs.signals.ClientSignals.TheSendSync as ClientSignalsCros
 use Rattle.network.proofs.signals.StopSignal.TheSendSync as StopSignalCrosses
 use Rattle.mapshare.proofs.Crossing.{fielded}
 use Rattle.mapshare.proofs.ReaderCrossing.{reader-send}
-use Rattle.service.proofs.threaded.start_clients.Goals as goal
+use Rattle.service.proofs.starting.start_clients.Goals as goal
 
 pub spawn-requires-send-F : goal.spawn-requires-send-F
 spawn-requires-send-F g c κs within = search (reader-send, fielded, ClientSideCrosses.the_send, AcceptingCrosses.the_send, PortForCrosses.the_send, ClientSignalsCrosses.the_send, StopSignalCrosses.the_send) depth 60 fits 100000

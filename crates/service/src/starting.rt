@@ -1,0 +1,184 @@
+//! The threads of a service: that of clients and that of the input with whose end it ends.
+
+ghost use Rattle.std.specs.Prelude.{◌≡◌, IfErr, true};
+ghost use Rattle.network.specs.Announcing.{is_service_failure};
+
+use crate::administering::Administering;
+use crate::clients::{ClientFlags, ClientSide, serve_clients};
+use accesslog::LogQueue;
+use console::Failure;
+use eventloop::{Poller, Wakes};
+use mapshare::{Reader, Sharing};
+use network::{
+    Accepting, Administrators, ClientSignals, IntoTransport, Logs, Network, Port, PortFor, Ports,
+    Runtime, Starting, StopSignal, Wakers, signals_of,
+};
+use std::alloc::Global;
+use std::sync::Arc;
+use std::sync::atomic::{AtomicBool, Ordering};
+use std::thread::{self, JoinHandle, Threads};
+use turns::Transport;
+
+// Answers the connections of clients, up to the last. Where that fails or stops, the thread of administrators gets the signal.
+fn serve_all<S, R, C, T, P, Q, W>(
+    rt: &R,
+    readers: Vec<Reader<S>>,
+    side: ClientSide<P, Q, R>,
+    signals: &ClientSignals<W>,
+) -> Result<(), Failure>
+where
+    S: Sharing + Send + Sync + 'static,
+    R: Runtime,
+    C: IntoTransport<T> + Send + Drop + 'static,
+    T: Transport + Send + Drop + 'static,
+    P: Port<C> + Drop,
+    Q: Poller<T> + Send + Drop + 'static,
+    W: Wakes,
+{
+    let flags = ClientFlags {
+        starting: &signals.starting,
+        is_stopped: &signals.is_stopped,
+    };
+    let (served, _workers) = serve_clients::<S, R, C, T, P, Q>(rt, readers, side, flags);
+    signals.is_left.store(true, Ordering::SeqCst);
+    if served.is_err() || signals.is_stopped.load(Ordering::SeqCst) {
+        signals.is_over.give();
+    }
+    served
+}
+
+// Starts the thread that accepts the connections of clients.
+fn start_clients<S, R, C, T, P, Q, W>(
+    rt: &R,
+    readers: Vec<Reader<S>>,
+    side: ClientSide<P, Q, R>,
+    signals: ClientSignals<W>,
+) -> Result<JoinHandle<Result<(), Failure>>, Failure>
+where
+    S: Sharing + Send + Sync + 'static,
+    R: Runtime,
+    C: IntoTransport<T> + Send + Drop + 'static,
+    T: Transport + Send + Drop + 'static,
+    P: Port<C> + Send + Drop + 'static,
+    Q: Poller<T> + Send + Drop + 'static,
+    W: Wakes + Send + Drop + 'static,
+    ensures failed { IfErr result (λ failure. is_service_failure failure ≡ true) }
+{
+    let handle = *rt;
+    match thread::spawn(rt, move || {
+        serve_all::<S, R, C, T, P, Q, W>(&handle, readers, side, &signals)
+    }) {
+        Ok(child) => Ok(child),
+        Err(_) => Err(Failure::SocketFailed),
+    }
+}
+
+/// A service whose threads are started.
+#[derive(Drop)]
+pub(crate) struct Started<P, R, W: Wakes> {
+    /// The thread that accepts clients.
+    pub clients: JoinHandle<Result<(), Failure>>,
+    /// The side of administrators.
+    pub administering: Administering<P, R>,
+    /// Has the thread of clients stop.
+    pub stop: StopSignal<W>,
+    /// The input with whose end the service ends could not be read.
+    pub has_failed: Arc<AtomicBool, Global>,
+}
+
+impl<P, R, W: Wakes + Drop> Started<P, R, W> {
+    /// Ends the service, of which nobody was told.
+    pub fn end<T: Threads>(self, rt: &T)
+    where
+        P: Drop,
+        R: Drop,
+    {
+        let Started { clients, stop, .. } = self;
+        stop.give();
+        let _ = clients.join(rt);
+    }
+}
+
+// The ports of a service as its sides: its wakers, the side of clients with their log, and the connections of administrators.
+fn sides_of<C, P, W, Q, I, R>(
+    ports: Ports<P, W, Q, I>,
+    log: Option<LogQueue<R>>,
+) -> (
+    Wakers<W, I>,
+    ClientSide<P, Q, R>,
+    Accepting<PortFor<Administrators, P>>,
+)
+where
+    P: Port<C>,
+{
+    let connections = ports.service.connections;
+    let wakers = Wakers {
+        administration: ports.waker,
+        clients: ports.clients_waker,
+        until: ports.until,
+    };
+    let side = ClientSide {
+        port: Accepting::new(ports.clients, connections),
+        pollers: ports.pollers,
+        service: ports.service,
+        log,
+    };
+    let mut administration = ports.administration;
+    administration.keep_reserve();
+    let administration = Accepting::new(administration, connections);
+    (wakers, side, administration)
+}
+
+// Waits until the workers of clients are started. Where one can't be, it waits for the end of their thread.
+fn started_clients<R: Runtime>(
+    rt: &R,
+    starting: &Starting,
+    clients: JoinHandle<Result<(), Failure>>,
+) -> Result<JoinHandle<Result<(), Failure>>, Failure>
+    ensures failed { IfErr result (λ failure. is_service_failure failure ≡ true) }
+{
+    if starting.wait(rt) {
+        return Ok(clients);
+    }
+    match clients.join(rt) {
+        Err(Failure::NoMemory) => Err(Failure::NoMemory),
+        _ => Err(Failure::SocketFailed),
+    }
+}
+
+/// Starts the threads of clients and of the input's end.
+pub(crate) fn start_sides<S, R, N>(
+    rt: &R,
+    readers: Vec<Reader<S>>,
+    ports: Ports<N::Port, N::Waker, N::Poller, N::Input>,
+    logs: Logs<R>,
+) -> Result<Started<N::Port, R, N::Waker>, Failure>
+where
+    S: Sharing + Send + Sync + 'static,
+    R: Runtime,
+    N: Network,
+    ensures failed { IfErr result (λ failure. is_service_failure failure ≡ true) }
+{
+    let (wakers, side, port) = sides_of::<N::Connection, N::Port, N::Waker, N::Poller, N::Input, R>(
+        ports,
+        logs.clients,
+    );
+    let signals = signals_of(rt, wakers)?;
+    let clients = start_clients::<S, R, N::Connection, N::Transport, N::Port, N::Poller, N::Waker>(
+        rt,
+        readers,
+        side,
+        signals.clients,
+    )?;
+    Ok(Started {
+        clients: started_clients(rt, &signals.starting, clients)?,
+        administering: Administering {
+            port,
+            is_over: signals.is_over,
+            is_left: signals.is_left,
+            log: logs.administration,
+        },
+        stop: signals.stop,
+        has_failed: signals.has_failed,
+    })
+}
