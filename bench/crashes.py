@@ -7,7 +7,9 @@ Two clients submit batches by lot, up to four together, and the server is killed
 After half of the kills the bytes that no call has synced are lost, or others stand in their place, as after a loss of
 power. Then each call that the server makes on the journal is, in turn, not made or made by half, with the death of the
 server behind it, or fails; while the journal is made, while batches come, and while one with a torn end is opened. A
-library that is loaded before the C library, built here with cc, does that, and reports how much was synced.
+library that is loaded before the C library, built here with cc, does that, and reports how much was synced. All of it is
+done once more with batches of 100 to 350 KB and a checkpoint at 1 MB; there the name of a file is lost, too, that its folder wasn't
+synced after.
 
 After each the server is started again: its sequence, its pictures and the features that it lists have to be those of
 a list of batches that begins with all that was reported to a client, and that each was submitted. At last a byte of a journal
@@ -30,7 +32,7 @@ import tempfile
 import threading
 import time
 
-from point_batches import MAP, State, answers_of, batch_by_lot, sequence_of
+from point_batches import MAP, State, answers_of, append, batch_by_lot, sequence_of
 from served import ports_of
 
 # the kills after which a new journal is begun, so that a start doesn't take longer and longer
@@ -54,6 +56,8 @@ SHIM = r"""
 
 // what the script sees of it, also after the end: calls, and the bytes of the journal that are synced
 static struct { long calls, synced; } *seen;
+// the bytes that are synced of a file that is made beside the journal
+static long beside;
 static long at;
 static const char *how, *journal;
 
@@ -68,18 +72,25 @@ __attribute__((constructor)) static void begin(void) {
         syscall(SYS_close, file);
     }
 }
-// whether a descriptor is the journal, the one that is made beside it, or their folder
+enum { OTHER, JOURNAL, BESIDE, FOLDER };
+// whether a descriptor is the journal, a file that is made beside it, or their folder. A file whose name is gone has got the journal's
 static int is_kept(int file) {
     char name[64], path[4096];
-    if (!seen) return 0;
+    if (!seen) return OTHER;
     snprintf(name, sizeof name, "/proc/self/fd/%d", file);
     long size = readlink(name, path, sizeof path - 1);
-    if (size <= 0) return 0;
+    if (size <= 0) return OTHER;
     path[size] = 0;
     size_t length = strlen(journal);
-    if (strncmp(path, journal, length) == 0) return 1;
+    if (strncmp(path, journal, length) == 0) return path[length] == 0 || strstr(path, " (deleted)") ? JOURNAL : BESIDE;
     const char *slash = strrchr(journal, '/');
-    return slash && (size_t)size == (size_t)(slash - journal) && strncmp(path, journal, size) == 0;
+    return slash && (size_t)size == (size_t)(slash - journal) && strncmp(path, journal, size) == 0 ? FOLDER : OTHER;
+}
+// the name of a file beside the journal, which the script reads
+static const char *named(const char *ending) {
+    static char path[4096];
+    snprintf(path, sizeof path, "%s%s", journal, ending);
+    return path;
 }
 static void die(void) { syscall(SYS_kill, syscall(SYS_getpid), SIGKILL); for (;;) pause(); }
 // counts a call: 0 where it is to be made, 1 where it is to be made by half, and 2 where it fails
@@ -120,8 +131,14 @@ static int synced(long number, int file) {
         if (what == 1) die();
         fstat(file, &size);
     }
-    int result = real(number, file, 0, 0, 0);
-    if (is && result == 0 && S_ISREG(size.st_mode)) seen->synced = size.st_size;
+    int result = put(real(number, file, 0, 0, 0));
+    if (result == 0 && is == JOURNAL) seen->synced = size.st_size;
+    if (result == 0 && is == BESIDE) beside = size.st_size;
+    if (result == 0 && is == FOLDER) {
+        // the names in it are kept from now on
+        unlink(named(".lost"));
+        unlink(named(".unnamed"));
+    }
     return result;
 }
 int fsync(int file) { return synced(SYS_fsync, file); }
@@ -144,9 +161,31 @@ int rename(const char *old, const char *new) {
     if (seen && strncmp(old, journal, strlen(journal)) == 0) {
         int what = now();
         if (what == 2) return fails(EIO);
+        // until the folder is synced, the name may be that of the old file again
+        unlink(named(".lost"));
+        syscall(SYS_link, new, named(".lost"));
+        seen->synced = beside;
         if (what == 1) { real(SYS_rename, (long)old, (long)new, 0, 0); die(); }
     }
     return real(SYS_rename, (long)old, (long)new, 0, 0);
+}
+// until the folder is synced, a new name may be lost
+static int linked(const char *old, const char *new) {
+    if (seen && strcmp(new, journal) == 0) {
+        int what = now();
+        if (what == 2) return fails(EIO);
+        syscall(SYS_close, syscall(SYS_openat, AT_FDCWD, named(".unnamed"), O_CREAT | O_WRONLY, 0600));
+        seen->synced = beside;
+        int result = real(SYS_link, (long)old, (long)new, 0, 0);
+        if (what == 1) die();
+        return result;
+    }
+    return real(SYS_link, (long)old, (long)new, 0, 0);
+}
+int link(const char *old, const char *new) { return linked(old, new); }
+int linkat(int from, const char *old, int to, const char *new, int flags) {
+    if (from == AT_FDCWD && to == AT_FDCWD) return linked(old, new);
+    return syscall(SYS_linkat, from, old, to, new, flags);
 }
 // one that makes a file counts
 static int opened(const char *path, int flags, int mode) {
@@ -185,6 +224,7 @@ class Life:
         self.bench, self.published = bench, []
         bench.count(0, bench.synced)
         words = [bench.program, "serve", "--explain", "map.map", "--port", "0", "--admin-port", "0", "--workers", "1", "--journal", str(bench.journal)]
+        words += ["--checkpoint", "1"] * bench.has_checkpoints
         env = {"LD_PRELOAD": bench.shim, "SEEN": str(bench.seen), "JOURNAL": str(bench.journal), "AT": str(at), "HOW": how}
         self.process = subprocess.Popen(words, stdout=subprocess.PIPE, stderr=subprocess.PIPE, cwd=bench.folder, env=env)
         self.watch = threading.Timer(LONGEST, self.process.kill)
@@ -235,7 +275,7 @@ class Bench:
         self.seen.write_bytes(bytes(4096))
         with open(self.seen, "r+b") as file:
             self.shared = mmap.mmap(file.fileno(), 16)
-        self.chance, self.kept, self.number = random.Random(seed), [], 0
+        self.chance, self.kept, self.number, self.has_checkpoints = random.Random(seed), [], 0, False
         self.states = [State()]
 
     def count(self, calls, synced):
@@ -258,7 +298,12 @@ class Bench:
 
     def batch(self):
         self.number += 1
-        return batch_by_lot(self.chance, str(self.number))
+        return batch_by_lot(self.chance, str(self.number), self.chance.randrange(100_000, 350_000) * self.has_checkpoints)
+
+    def filling(self):
+        """A batch of 300 KB, which empties the layer in half of the cases."""
+        self.number += 1
+        return append(self.chance, str(self.number), self.chance.random() < 0.5, 300_000)
 
     def client(self, life, end, published, open_batches, lock):
         """Submits batches, up to four together, until the server is gone."""
@@ -304,6 +349,17 @@ class Bench:
 
     def lose(self):
         """What a loss of power may leave: a prefix of what wasn't synced, or other bytes in its place."""
+        lost, unnamed = (self.journal.with_name(f"journal.{ending}") for ending in ("lost", "unnamed"))
+        if unnamed.exists():
+            self.journal.unlink(missing_ok=True)
+            unnamed.unlink()
+            return True
+        if lost.exists():
+            # all of the file that had the name before was synced
+            if self.chance.random() < 0.5:
+                os.replace(lost, self.journal)
+                return True
+            lost.unlink()
         data, synced = self.journal.read_bytes(), self.synced
         if len(data) <= synced:
             return False
@@ -329,7 +385,7 @@ def kills_of(bench, count, found):
             published, open_batches = {}, []
         life = bench.must_start()
         found["shown and not reported"] += bench.look(life, published, open_batches)
-        published, open_batches = bench.lead(life, bench.chance.uniform(0, 0.1))
+        published, open_batches = bench.lead(life, bench.chance.uniform(0, 1.5 if bench.has_checkpoints else 0.1))
         life.end()
         found["kills"] += 1
         found["reported"] += len(published)
@@ -360,7 +416,7 @@ def tried_at(bench, at, how, is_torn, found):
         bench.look(life, published, open_batches)
     published_now, open_now = few(bench, life) if life.ports else ({}, [])
     reached = bench.calls >= at
-    if how == "fail" and reached:
+    if how == "fail" and reached and not bench.has_checkpoints:
         # a server that can't keep a batch ends by itself
         try:
             life.process.wait(LONGEST)
@@ -369,7 +425,8 @@ def tried_at(bench, at, how, is_torn, found):
     status, errors = life.end()
     if bench.journal.exists() and bench.chance.random() < 0.5:
         found["bytes lost"] += bench.lose()
-    if how == "fail" and reached and status != 3:
+    # where a file can't be made that is to take the journal's place, the server goes on with the journal
+    if how == "fail" and reached and status != 3 and not bench.has_checkpoints:
         raise Wrong(f"where call {at} fails the status is {status}: {errors!r}")
     if is_torn and not life.ports:
         published_now, open_now = published, open_batches
@@ -385,10 +442,10 @@ def tried_at(bench, at, how, is_torn, found):
 
 
 def few(bench, life):
-    """Two batches, one after the other, and then three together, up to the first that isn't answered."""
+    """Two batches, one after the other, and then three together, up to the first that isn't answered. With checkpoints one comes with the last."""
     published = {}
     for count in (1, 1, 3):
-        batches = [bench.batch() for _ in range(count)]
+        batches = [bench.filling() if bench.has_checkpoints else bench.batch() for _ in range(count)]
         left = take(batches, life.submit(*batches), published)
         if left:
             return published, left
@@ -459,8 +516,10 @@ def main():
         (pathlib.Path(folder) / "shim.c").write_text(SHIM)
         subprocess.run(["cc", "-shared", "-fPIC", "-o", shim, f"{folder}/shim.c", "-ldl"], check=True)
         bench = Bench(os.path.abspath(words[0]), shim, folder, seed)
-        for part, act in (("kills", lambda found: kills_of(bench, kills, found)), ("calls", lambda found: calls_of(bench, found)), ("changes", lambda found: changes_of(bench, changes, found))):
+        parts = (("kills", lambda found: kills_of(bench, kills, found)), ("calls", lambda found: calls_of(bench, found)), ("changes", lambda found: changes_of(bench, changes, found)))
+        for part, act in (*parts, *((f"{part} with checkpoints", act) for part, act in parts[:2])):
             found, begun = collections.Counter(), time.monotonic()
+            bench.has_checkpoints = part.endswith("checkpoints")
             try:
                 act(found)
             except Wrong as why:

@@ -8,12 +8,15 @@ that sends ten ahead of their answers, by one and by eight on a connection for e
 median and the 99th of 100 in milliseconds from the first byte that is sent to the answer, of ten to the last answer. Another client asks for a tile of 256 by 256 pixels meanwhile, again and again on
 one connection: its median and 99th are in the same line, behind those of a line without batches.
 
-At last the seconds from the start to the line that says where the ports are: with a journal of 10,000 batches of one command, and
-with one of 100 batches that each empty a layer and append 100,000 rows to it.
+Then batches that each empty a layer and append 200,000 rows to it, with a journal that is compacted from 5 MB on, beside one that only
+grows. At last the seconds from the start to the line that says where the ports are: with a journal of 10,000 batches of one command, and
+with one of 100 batches that each empty a layer and append 100,000 rows to it, only grown and compacted from 8 MB on; and how much
+memory that start took at most.
 """
 import http.client
 import os
 import pathlib
+import re
 import shutil
 import socket
 import subprocess
@@ -34,8 +37,8 @@ BATCHES = [b"OFF stops\n", b"ON stops\n"]
 
 
 class Server:
-    def __init__(self, program, folder, journal=None):
-        words = [program, "serve", "map.map", "--port", "0", "--admin-port", "0", "--workers", "4", "--explain"]
+    def __init__(self, program, folder, journal=None, checkpoint=0):
+        words = [program, "serve", "map.map", "--port", "0", "--admin-port", "0", "--workers", "4", "--explain", "--checkpoint", str(checkpoint)]
         self.began = time.monotonic()
         self.process = subprocess.Popen(words + (["--journal", journal] if journal else []), stdout=subprocess.PIPE, cwd=folder)
         self.port, self.administration = ports_of(self.process.stdout.readline())
@@ -43,6 +46,11 @@ class Server:
 
     def __enter__(self):
         return self
+
+    def peak(self):
+        """The most memory that it had so far, in MB."""
+        status = pathlib.Path(f"/proc/{self.process.pid}/status").read_text()
+        return int(re.search(r"VmHWM:\s+(\d+) kB", status)[1]) / 1e3
 
     def __exit__(self, *_):
         self.process.kill()
@@ -106,20 +114,20 @@ def ask(port, until, times):
     client.close()
 
 
-def submit_all(port, keeps, ahead, until, times):
+def submit_all(port, keeps, ahead, until, times, batches=BATCHES):
     submitter, number = Submitter(port, keeps), 0
     while time.monotonic() < until:
         began = time.monotonic()
-        submitter.submit(*(BATCHES[(number + after) % 2] for after in range(ahead)))
+        submitter.submit(*(batches[(number + after) % len(batches)] for after in range(ahead)))
         times.extend([time.monotonic() - began] * ahead)
         number += ahead
     submitter.close()
 
 
-def meanwhile(server, seconds, count, keeps, ahead):
+def meanwhile(server, seconds, count, keeps, ahead, submitted=BATCHES):
     """What batches took that so many submit, each so many ahead, and what pictures took meanwhile."""
     until, batches, pictures = time.monotonic() + seconds, [], []
-    threads = [threading.Thread(target=submit_all, args=(server.administration, keeps, ahead, until, batches)) for _ in range(count)]
+    threads = [threading.Thread(target=submit_all, args=(server.administration, keeps, ahead, until, batches, submitted)) for _ in range(count)]
     threads.append(threading.Thread(target=ask, args=(server.port, until, pictures)))
     for thread in threads:
         thread.start()
@@ -152,15 +160,31 @@ def beside_pictures(program, folder, seconds):
                 row(f"{named}, {words}", seconds, *meanwhile(server, seconds, count, keeps, ahead))
 
 
-def start_after(program, folder, name, batches):
-    with Server(program, folder, name) as server:
+def replacing(count):
+    """A batch that empties a layer and appends so many rows to it."""
+    rows = b"x,y\n" + b"".join(b"%d.%d,%d.%d\n" % (n % 180, n // 180 % 10, n % 90, n % 7) for n in range(count))
+    return b"CLEAR stops\nAPPEND %d stops\n" % len(rows) + rows
+
+
+def beside_checkpoints(program, folder, seconds):
+    for checkpoint in (0, 5):
+        name = f"replaced-{checkpoint}.journal"
+        with Server(program, folder, name, checkpoint) as server:
+            times = meanwhile(server, seconds, 1, True, 1, [replacing(200_000)])
+            size = (folder / name).stat().st_size
+        row(f"200,000 rows replaced, --checkpoint {checkpoint}, {size / 1e6:.1f} MB of journal at the end", seconds, *times)
+
+
+def start_after(program, folder, name, batches, checkpoint=0):
+    with Server(program, folder, name, checkpoint) as server:
         submitter = Submitter(server.administration, True)
         for batch in batches:
             submitter.submit(batch)
         submitter.close()
     size = (folder / name).stat().st_size
-    with Server(program, folder, name) as server:
-        print(f"a start with {len(batches)} batches, {size / 1e6:.1f} MB of journal: {server.started:.2f} s", flush=True)
+    with Server(program, folder, name, checkpoint) as server:
+        print(f"a start after {len(batches)} batches, --checkpoint {checkpoint}: {size / 1e6:.1f} MB of journal, {server.started:.2f} s, "
+              f"{server.peak():.1f} MB at most", flush=True)
 
 
 def main():
@@ -176,9 +200,10 @@ def main():
         beside_pictures(program, folder, seconds)
         with Server(program, folder) as server:
             print(f"a start without a journal: {server.started:.2f} s", flush=True)
+        beside_checkpoints(program, folder, 4 * seconds)
         start_after(program, folder, "many.journal", [BATCHES[number % 2] for number in range(10_000)])
-        rows = b"x,y\n" + b"".join(b"%d.%d,%d.%d\n" % (n % 180, n // 180 % 10, n % 90, n % 7) for n in range(100_000))
-        start_after(program, folder, "large.journal", [b"CLEAR stops\nAPPEND %d stops\n" % len(rows) + rows] * 100)
+        for checkpoint in (0, 8):
+            start_after(program, folder, f"large-{checkpoint}.journal", [replacing(100_000)] * 100, checkpoint)
 
 
 if __name__ == "__main__":

@@ -64,22 +64,22 @@ def after(batches):
     return state
 
 
-def append(chance, name, clears):
-    """A batch that adds up to three points, behind those that are there or in their place."""
+def append(chance, name, clears, padding=0):
+    """A batch that adds up to three points, behind those that are there or in their place. It is longer by the padding, in a column that the layer has no item of."""
     points = tuple((f"{name}.{count}", chance.randrange(SIDE), chance.randrange(SIDE)) for count in range(chance.randrange(1, 4)))
-    rows = "".join(f"{column + 0.5},{SIDE - row - 0.5},{point}\n" for point, column, row in points)
-    table = ("x,y,name\n" + rows).encode()
+    rows = "".join(f"{column + 0.5},{SIDE - row - 0.5},{point},{'.' * (padding // len(points))}\n" for point, column, row in points)
+    table = ("x,y,name,padding\n" + rows).encode()
     data = b"CLEAR a\n" * clears + b"APPEND %d a\n%s" % (len(table), table)
     return Batch(data, lambda state: State(points if clears else state.points + points, state.is_on))
 
 
-def batch_by_lot(chance, name):
+def batch_by_lot(chance, name, padding=0):
     """A batch, as often as its kind is worth: names of points are those of no other batch."""
     lot = chance.random()
     if lot < 0.6:
-        return append(chance, name, False)
+        return append(chance, name, False, padding)
     if lot < 0.7:
-        return append(chance, name, True)
+        return append(chance, name, True, padding)
     if lot < 0.85:
         is_on = chance.random() < 0.6
         return Batch(b"ON b\n" if is_on else b"OFF b\n", lambda state: State(state.points, is_on))

@@ -71,9 +71,18 @@ class Journals(unittest.TestCase):
             self.batches(journal(b"ON a\n") + record(3, b"ON b\n"))
 
     def test_another_file_is_no_journal(self):
-        for data in (b"", b"KESMOCH JOURNAL 2\n" + FINGERPRINT, b"KESMOCH JOURNAL 1\n" + FINGERPRINT[:31]):
+        none = b"KESMOCH JOURNAL 2\n" + FINGERPRINT + bytes(8)
+        for data in (b"", b"KESMOCH JOURNAL 1\n" + FINGERPRINT[:31], none[:-1], none, b"KESMOCH JOURNAL 3\n" + FINGERPRINT):
             with self.assertRaises(rotate.Unreadable):
                 self.batches(data)
+
+    def test_a_compacted_journal_has_a_longer_name(self):
+        name = FINGERPRINT + (70_000).to_bytes(8, "big")
+        begin = b"KESMOCH JOURNAL 2\n" + name
+        self.assertEqual(self.batches(begin), [])
+        self.assertEqual(self.batches(begin + record(1, b"ON a\n", name) + record(2, b"CLEAR bc\n", name)), [b"ON a\n", b"CLEAR bc\n"])
+        # a record of the map before it was compacted is none of it
+        self.assertEqual(self.batches(begin + record(1, b"ON a\n")), [])
 
 
 class Layers(unittest.TestCase):

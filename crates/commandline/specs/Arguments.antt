@@ -63,7 +63,7 @@ pub record ServeOption : Type 0 where
   pub most : ℕ
   pub default : Text
 
--- the options of `serve`: two ports, how many connections are taken (0 is no end), milliseconds, seconds, and threads
+-- the options of `serve`: two ports, how many connections are taken (0 is no end), milliseconds, seconds, threads, and megabytes (0 is never)
 abbrev pub serve_options : List ServeOption
 serve_options =
     record { name = codes "port"; least = 0; most = 65535; default = codes "8080" }
@@ -72,6 +72,7 @@ serve_options =
     ∷ record { name = codes "timeout"; least = 1; most = 3600; default = codes "30" }
     ∷ record { name = codes "admin-port"; least = 0; most = 65535; default = codes "8081" }
     ∷ record { name = codes "workers"; least = 1; most = 32; default = codes "4" }
+    ∷ record { name = codes "checkpoint"; least = 0; most = 1000000; default = codes "0" }
     ∷ []
 
 -- the same for an option of the code
@@ -134,6 +135,7 @@ pub record IsService (rows : List Row) (service : Service) : Type 0 where
   pub timeout : IsNumber 16 (codes "timeout") rows service.timeout
   pub admin_port : IsNumber 16 (codes "admin-port") rows service.admin_port
   pub workers : IsNumber 16 (codes "workers") rows service.workers
+  pub checkpoint : IsNumber 32 (codes "checkpoint") rows service.checkpoint
   pub until_input_ends : IsFlag (codes "until-input-ends") rows service.until_input_ends
   pub logs : IsFlag (codes "log") rows service.logs
   pub ranges : All (IsInRange rows) serve_options
@@ -188,6 +190,7 @@ pub record OptionTexts : Type 0 where
   pub timeout : Text
   pub admin_port : Text
   pub workers : Text
+  pub checkpoint : Text
   pub until_input_ends : Bool
   pub logs : Bool
   pub journal : Option Text
@@ -201,6 +204,7 @@ default_texts = record {
   timeout = codes "30";
   admin_port = codes "8081";
   workers = codes "4";
+  checkpoint = codes "0";
   until_input_ends = false;
   logs = false;
   journal = None;
@@ -214,6 +218,7 @@ pub record IsServedBy (texts : OptionTexts) (service : Service) : Type 0 where
   pub reads_timeout : Reads 16 texts.timeout service.timeout
   pub reads_admin_port : Reads 16 texts.admin_port service.admin_port
   pub reads_workers : Reads 16 texts.workers service.workers
+  pub reads_checkpoint : Reads 32 texts.checkpoint service.checkpoint
   pub ends : service.until_input_ends ≡ texts.until_input_ends
   pub logs : service.logs ≡ texts.logs
 
@@ -228,7 +233,7 @@ abbrev pub May : List Text → Command → Type 0
 May arguments command = IsCommand (subcommand_of app arguments) command
 
 -- the law on arguments that are written out. None are a session, `check` has its file, and `run` has the mapfile before the script. `serve` has its
--- file, and numbers that are missing are 8080, 0, 60000, 30, 8081 and 4. Each flag is set where it is given, and else not, and so is the journal
+-- file, and numbers that are missing are 8080, 0, 60000, 30, 8081, 4 and 0. Each flag is set where it is given, and else not, and so is the journal
 pub record CommandsAreWritten : Type 0 where
   pub none : (c : Command) → May [] c → IsSession c
   pub check : (c : Command) → May (codes "check" ∷ codes "a.map" ∷ []) c → Checks (codes "a.map") false c
@@ -242,6 +247,7 @@ pub record CommandsAreWritten : Type 0 where
   pub ended : (c : Command) → May (codes "serve" ∷ codes "a.map" ∷ codes "--until-input-ends" ∷ []) c → Serves (codes "a.map") false (record default_texts { until_input_ends = true }) c
   pub logged : (c : Command) → May (codes "serve" ∷ codes "--log" ∷ codes "a.map" ∷ []) c → Serves (codes "a.map") false (record default_texts { logs = true }) c
   pub kept : (c : Command) → May (codes "serve" ∷ codes "a.map" ∷ codes "--journal" ∷ codes "b.journal" ∷ []) c → Serves (codes "a.map") false (record default_texts { journal = Some (codes "b.journal") }) c
+  pub shortened : (c : Command) → May (codes "serve" ∷ codes "a.map" ∷ codes "--checkpoint" ∷ codes "64" ∷ codes "--journal" ∷ codes "b.journal" ∷ []) c → Serves (codes "a.map") false (record default_texts { checkpoint = codes "64"; journal = Some (codes "b.journal") }) c
   pub serve_explained : (c : Command) → May (codes "serve" ∷ codes "a.map" ∷ codes "--explain" ∷ []) c → Serves (codes "a.map") true default_texts c
 
 -- the law on arguments that are taken or refused. Those of each command are taken. Those that lack a file, begin with another argument, request help
@@ -258,4 +264,5 @@ pub record ArgumentsAreTaken : Type 0 where
       × (takes app (codes "serve" ∷ codes "a.map" ∷ codes "--timeout" ∷ codes "0" ∷ []) ≡ false) × (takes app (codes "serve" ∷ codes "a.map" ∷ codes "--timeout" ∷ codes "3601" ∷ []) ≡ false)
   pub unmanned : (takes app (codes "serve" ∷ codes "a.map" ∷ codes "--workers" ∷ codes "0" ∷ []) ≡ false) × (takes app (codes "serve" ∷ codes "a.map" ∷ codes "--workers" ∷ codes "33" ∷ []) ≡ false)
       × (takes app (codes "serve" ∷ codes "a.map" ∷ codes "--admin-port" ∷ codes "65536" ∷ []) ≡ false)
+  pub unbounded : (takes app (codes "serve" ∷ codes "a.map" ∷ codes "--checkpoint" ∷ codes "1000001" ∷ []) ≡ false) × (takes app (codes "serve" ∷ codes "a.map" ∷ codes "--checkpoint" ∷ []) ≡ false)
   pub nameless : takes app (codes "serve" ∷ codes "a.map" ∷ codes "--journal" ∷ []) ≡ false

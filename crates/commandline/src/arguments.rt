@@ -82,6 +82,7 @@ fn service_of<'a>(matches: &ArgMatches<'a>) -> Option<Service>
         timeout: number_of(matches, "timeout")?,
         admin_port: number_of(matches, "admin-port")?,
         workers: number_of(matches, "workers")?,
+        checkpoint: large_number_of(matches, "checkpoint")?,
         until_input_ends: flag_of(matches, "until-input-ends"),
         logs: flag_of(matches, "log"),
     })

@@ -15,4 +15,4 @@ mod subcommand;
 mod version;
 
 pub use arguments::{WordsFault, command};
-pub use subcommand::{Command, MAX_IDLE, MAX_TIMEOUT, MAX_WORKERS, Service};
+pub use subcommand::{Command, MAX_CHECKPOINT, MAX_IDLE, MAX_TIMEOUT, MAX_WORKERS, Service};

@@ -1,4 +1,4 @@
-use crate::subcommand::{MAX_IDLE, MAX_TIMEOUT, MAX_WORKERS};
+use crate::subcommand::{MAX_CHECKPOINT, MAX_IDLE, MAX_TIMEOUT, MAX_WORKERS};
 
 /// An option of `serve`, which is a number.
 pub(crate) struct NumberOption<'a> {
@@ -17,7 +17,7 @@ pub(crate) struct NumberOption<'a> {
 }
 
 /// The options of `serve`, in the order of its help.
-pub(crate) const SERVE_OPTIONS: [NumberOption<'static>; 6] = [
+pub(crate) const SERVE_OPTIONS: [NumberOption<'static>; 7] = [
     NumberOption {
         name: "port",
         least: 0,
@@ -65,5 +65,13 @@ pub(crate) const SERVE_OPTIONS: [NumberOption<'static>; 6] = [
         default: "4",
         value: "COUNT",
         help: "Threads that answer clients",
+    },
+    NumberOption {
+        name: "checkpoint",
+        least: 0,
+        most: MAX_CHECKPOINT,
+        default: "0",
+        value: "MEGABYTES",
+        help: "Compact the journal where it has grown to this size, 0 for never",
     },
 ];

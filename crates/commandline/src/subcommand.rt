@@ -41,6 +41,9 @@ pub const MAX_TIMEOUT: u16 = 3_600;
 /// How many workers answer connections at most.
 pub const MAX_WORKERS: u16 = 32;
 
+/// From how many megabytes on a journal is compacted at most.
+pub const MAX_CHECKPOINT: u32 = 1_000_000;
+
 /// The options of a service.
 #[derive(Clone, Copy)]
 pub struct Service {
@@ -56,6 +59,8 @@ pub struct Service {
     pub admin_port: u16,
     /// How many workers answer the connections of clients, 1 to `MAX_WORKERS`.
     pub workers: u16,
+    /// From how many megabytes on a journal is compacted, up to `MAX_CHECKPOINT`, 0 for never.
+    pub checkpoint: u32,
     /// The service ends when standard input does.
     pub until_input_ends: bool,
     /// Each answer, each batch and each connection that is given up is logged in a line of standard error.

@@ -80,61 +80,61 @@ first_end (c ∷ first) (f ∷ front) rest more none same = further (first_end f
     further (Same is) = Same is
     further (Further between is) = Further between is
 
-module _ (digest : List ℕ → List ℕ) (fingerprint : List ℕ) where
+module _ (digest : List ℕ → List ℕ) (name : List ℕ) where
   -- a record begins with an END, and has another in it
-  pub record_is : (bytes : List ℕ) → (has : StartsWithRecord digest fingerprint bytes) → bytes ≡ 192 ∷ (stuffed (body digest fingerprint has.0 has.1) ++ 192 ∷ has.2)
-  record_is bytes has = has.4 ∙ frame_before (body digest fingerprint has.0 has.1) has.2
+  pub record_is : (bytes : List ℕ) → (has : StartsWithRecord digest name bytes) → bytes ≡ 192 ∷ (stuffed (body digest name has.0 has.1) ++ 192 ∷ has.2)
+  record_is bytes has = has.4 ∙ frame_before (body digest name has.0 has.1) has.2
 
   -- without an END there is no record
-  pub no_end_torn : (bytes : List ℕ) → HasNoEnd bytes → IsTorn digest fingerprint bytes
+  pub no_end_torn : (bytes : List ℕ) → HasNoEnd bytes → IsTorn digest name bytes
   no_end_torn bytes none (front, rest, is, has) =
-      no_end_ends bytes none (record { front = front; more = stuffed (body digest fingerprint has.0 has.1) ++ 192 ∷ has.2; is = is ∙ ap (λ (l : List ℕ). front ++ l) (record_is rest has) })
+      no_end_ends bytes none (record { front = front; more = stuffed (body digest name has.0 has.1) ++ 192 ∷ has.2; is = is ∙ ap (λ (l : List ℕ). front ++ l) (record_is rest has) })
 
   -- with one END, at the start, there is none either
-  one_end_torn : (piece front rest bytes : List ℕ) → piece ≡ 192 ∷ bytes → HasNoEnd bytes → piece ≡ front ++ rest → StartsWithRecord digest fingerprint rest → ⊥
+  one_end_torn : (piece front rest bytes : List ℕ) → piece ≡ 192 ∷ bytes → HasNoEnd bytes → piece ≡ front ++ rest → StartsWithRecord digest name rest → ⊥
   one_end_torn piece [] rest bytes is none split has =
-      no_end_ends bytes none (record { front = stuffed (body digest fingerprint has.0 has.1); more = has.2; is = cc (is, split, record_is rest has) })
+      no_end_ends bytes none (record { front = stuffed (body digest name has.0 has.1); more = has.2; is = cc (is, split, record_is rest has) })
   one_end_torn piece (f ∷ front) rest bytes is none split has =
       no_end_torn bytes none (front, rest, cc (is, split), has)
 
-  pub short_torn : (piece : List ℕ) → CutShort piece → IsTorn digest fingerprint piece
-  short_torn piece (Nothing is) = subst (IsTorn digest fingerprint) (sym is) (no_end_torn [] tt)
+  pub short_torn : (piece : List ℕ) → CutShort piece → IsTorn digest name piece
+  short_torn piece (Nothing is) = subst (IsTorn digest name) (sym is) (no_end_torn [] tt)
   short_torn piece (First bytes is none) = λ has. one_end_torn piece has.0 has.1 bytes is none has.2 has.3
 
   -- where the append of a record stops, no record is left of it
-  pub cut_torn : (sequence batch piece missing : List ℕ) → record_of digest fingerprint sequence batch ≡ piece ++ missing → missing ≢ [] → IsTorn digest fingerprint piece
-  cut_torn sequence batch piece missing is some = short_torn piece (cut_frame (body digest fingerprint sequence batch) piece missing is some)
+  pub cut_torn : (sequence batch piece missing : List ℕ) → record_of digest name sequence batch ≡ piece ++ missing → missing ≢ [] → IsTorn digest name piece
+  cut_torn sequence batch piece missing is some = short_torn piece (cut_frame (body digest name sequence batch) piece missing is some)
 
-  pub number_is_record : (number : ℕ) (bytes : List ℕ) → StartsWithNumber digest fingerprint number bytes → StartsWithRecord digest fingerprint bytes
+  pub number_is_record : (number : ℕ) (bytes : List ℕ) → StartsWithNumber digest name number bytes → StartsWithRecord digest name bytes
   number_is_record number bytes has = (sequence_bytes number, has.0, has.1, length-sequence_bytes number, has.2)
 
-  record_more : (bytes more : List ℕ) → StartsWithRecord digest fingerprint bytes → StartsWithRecord digest fingerprint (bytes ++ more)
+  record_more : (bytes more : List ℕ) → StartsWithRecord digest name bytes → StartsWithRecord digest name (bytes ++ more)
   record_more bytes more has =
-      (has.0, has.1, has.2 ++ more, has.3, ap (λ (l : List ℕ). l ++ more) has.4 ∙ append_assoc (record_of digest fingerprint has.0 has.1) has.2 more)
+      (has.0, has.1, has.2 ++ more, has.3, ap (λ (l : List ℕ). l ++ more) has.4 ∙ append_assoc (record_of digest name has.0 has.1) has.2 more)
 
   -- a record in some bytes is in more bytes
-  pub within_more : (bytes more : List ℕ) → ContainsRecord digest fingerprint bytes → ContainsRecord digest fingerprint (bytes ++ more)
+  pub within_more : (bytes more : List ℕ) → ContainsRecord digest name bytes → ContainsRecord digest name (bytes ++ more)
   within_more bytes more (front, rest, is, has) =
       (front, rest ++ more, ap (λ (l : List ℕ). l ++ more) is ∙ append_assoc front rest more, record_more rest more has)
 
   -- a record at the start of some bytes is in them
-  pub within_front : (bytes : List ℕ) → StartsWithRecord digest fingerprint bytes → ContainsRecord digest fingerprint bytes
+  pub within_front : (bytes : List ℕ) → StartsWithRecord digest name bytes → ContainsRecord digest name bytes
   within_front bytes has = ([], bytes, refl, has)
 
   -- so a torn end that is cut shorter is still torn
-  pub torn_front : (bytes more : List ℕ) → IsTorn digest fingerprint (bytes ++ more) → IsTorn digest fingerprint bytes
+  pub torn_front : (bytes more : List ℕ) → IsTorn digest name (bytes ++ more) → IsTorn digest name bytes
   torn_front bytes more torn has = torn (within_more bytes more has)
 
   -- the contents of a record have one number and one batch
-  pub same_body : IsDigest digest → (p q a b : List ℕ) → length p ≡ length q → stuffed (body digest fingerprint p a) ≡ stuffed (body digest fingerprint q b) → (p ≡ q) × (a ≡ b)
+  pub same_body : IsDigest digest → (p q a b : List ℕ) → length p ≡ length q → stuffed (body digest name p a) ≡ stuffed (body digest name q b) → (p ≡ q) × (a ≡ b)
   same_body is_digest p q a b long same =
-      let places = same_begin p q _ _ long (same_stuffed (body digest fingerprint p a) (body digest fingerprint q b) same) in
+      let places = same_begin p q _ _ long (same_stuffed (body digest name p a) (body digest name q b) same) in
       (places.0, (same_end a b _ _ (is_digest _ ∙ sym (is_digest _)) places.1).0)
 
   -- some bytes begin with one record only, and have one rest
-  pub same_recorded : IsDigest digest → (p q a b x y : List ℕ) → length p ≡ length q → record_of digest fingerprint p a ++ x ≡ record_of digest fingerprint q b ++ y → (p ≡ q) × (a ≡ b) × (x ≡ y)
+  pub same_recorded : IsDigest digest → (p q a b x y : List ℕ) → length p ≡ length q → record_of digest name p a ++ x ≡ record_of digest name q b ++ y → (p ≡ q) × (a ≡ b) × (x ≡ y)
   same_recorded is_digest p q a b x y long same =
-      let frames = same_frame (body digest fingerprint p a) (body digest fingerprint q b) x y same in
+      let frames = same_frame (body digest name p a) (body digest name q b) x y same in
       let places = same_begin p q _ _ long frames.0 in
       let batches = same_end a b _ _ (is_digest _ ∙ sym (is_digest _)) places.1 in
       (places.0, batches.0, frames.1)

@@ -4,4 +4,5 @@ pub mod Framing
 pub mod Readings
 pub mod Digests
 pub mod Growing
+pub mod Names
 pub mod Standing

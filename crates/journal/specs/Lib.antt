@@ -3,4 +3,5 @@ pub mod Record
 pub mod Reading
 pub mod Law
 pub mod Fingerprint
+pub mod Name
 pub mod Texts

@@ -5,18 +5,18 @@ use Rattle.sha2.specs.Sha256.{sha256}
 use Rattle.journal.specs.Slip.{stuffed}
 use Rattle.journal.specs.Record.{sequence_bytes, body, record_of, journal_of}
 
-module _ (digest : List ℕ → List ℕ) (fingerprint : List ℕ) where
+module _ (digest : List ℕ → List ℕ) (name : List ℕ) where
   -- some bytes begin with the whole record of this number, whatever its batch
   abbrev pub StartsWithNumber : ℕ → List ℕ → Type 0
-  StartsWithNumber number bytes = (batch more : List ℕ) × (bytes ≡ record_of digest fingerprint (sequence_bytes number) batch ++ more)
+  StartsWithNumber number bytes = (batch more : List ℕ) × (bytes ≡ record_of digest name (sequence_bytes number) batch ++ more)
 
   -- some bytes are those between the two ENDs of a record, whatever its number
   abbrev pub IsRecordFrame : List ℕ → Type 0
-  IsRecordFrame bytes = (sequence batch : List ℕ) × (length sequence ≡ 8) × (bytes ≡ stuffed (body digest fingerprint sequence batch))
+  IsRecordFrame bytes = (sequence batch : List ℕ) × (length sequence ≡ 8) × (bytes ≡ stuffed (body digest name sequence batch))
 
   -- some bytes begin with a whole record, whatever its number
   abbrev pub StartsWithRecord : List ℕ → Type 0
-  StartsWithRecord bytes = (sequence batch more : List ℕ) × (length sequence ≡ 8) × (bytes ≡ record_of digest fingerprint sequence batch ++ more)
+  StartsWithRecord bytes = (sequence batch more : List ℕ) × (length sequence ≡ 8) × (bytes ≡ record_of digest name sequence batch ++ more)
 
   -- there is a whole record somewhere in some bytes
   abbrev pub ContainsRecord : List ℕ → Type 0
@@ -24,7 +24,7 @@ module _ (digest : List ℕ → List ℕ) (fingerprint : List ℕ) where
 
   -- a file is the journal of these batches and a tail, and the tail doesn't begin with the record that would be the next
   pub record Reads (file : List ℕ) (batches : List (List ℕ)) (tail : List ℕ) : Type 0 where
-    pub whole : file ≡ journal_of digest fingerprint batches ++ tail
+    pub whole : file ≡ journal_of digest name batches ++ tail
     pub longest : StartsWithNumber (length batches + 1) tail → ⊥
 
   -- a tail is torn where it contains no whole record: an append that wasn't completed can have left it
@@ -33,12 +33,12 @@ module _ (digest : List ℕ → List ℕ) (fingerprint : List ℕ) where
 
 -- a file stands for these batches: it is their journal, perhaps with a torn tail
 abbrev pub StandsFor : List ℕ → List ℕ → List (List ℕ) → Type 0
-StandsFor fingerprint file batches = (tail : List ℕ) × Reads sha256 fingerprint file batches tail × IsTorn sha256 fingerprint tail
+StandsFor name file batches = (tail : List ℕ) × Reads sha256 name file batches tail × IsTorn sha256 name tail
 
 -- it stands for these batches and the first of some more: for all of these, for some, or for none
 abbrev pub StandsForFirst : List ℕ → List (List ℕ) → List (List ℕ) → List ℕ → Type 0
-StandsForFirst fingerprint batches more file = (first : List (List ℕ)) × IsPrefix first more × StandsFor fingerprint file (batches ++ first)
+StandsForFirst name batches more file = (first : List (List ℕ)) × IsPrefix first more × StandsFor name file (batches ++ first)
 
 -- both stand for the same batches
 abbrev pub StandAlike : List ℕ → List ℕ → List ℕ → Type 0
-StandAlike fingerprint file other = (batches : List (List ℕ)) × StandsFor fingerprint file batches × StandsFor fingerprint other batches
+StandAlike name file other = (batches : List (List ℕ)) × StandsFor name file batches × StandsFor name other batches

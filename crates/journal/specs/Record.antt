@@ -1,24 +1,36 @@
--- The format of a journal: a header that names the map, and a record of each batch (docs/SERVICE.md, "Journal").
-use Rattle.std.specs.Prelude.{ℕ, ◌+◌, List, [], ◌∷◌, ◌++◌, codes}
+-- The format of a journal: a header with its name, and a record of each batch (docs/SERVICE.md, "Journal").
+use Rattle.std.specs.Prelude.{ℕ, ◌+◌, ◌==◌, if◌then◌else◌, List, [], ◌∷◌, ◌++◌, length, codes}
 use Rattle.std.specs.Int.{w64, to_be_bytes}
 use Rattle.journal.specs.Slip.{frame}
 
--- the first bytes of each journal: the name of the format, and its version
+-- the first bytes of each journal that was never compacted: the name of the format, and its version
 unfoldable pub signature : List ℕ
 signature = codes "KESMOCH JOURNAL 1\n"
 
--- the header: the signature, and the fingerprint of the map
-abbrev pub header : List ℕ → List ℕ
-header fingerprint = signature ++ fingerprint
+-- the first bytes of one that was
+unfoldable pub compacted_signature : List ℕ
+compacted_signature = codes "KESMOCH JOURNAL 2\n"
 
 -- a number in 8 bytes, the highest first
 unfoldable pub sequence_bytes : ℕ → List ℕ
 sequence_bytes number = to_be_bytes w64 number
 
-module _ (digest : List ℕ → List ℕ) (fingerprint : List ℕ) where
-  -- the contents of a record: the 8 bytes of its number, the batch, and the digest of both after the fingerprint of the map
+-- the name of a journal: the fingerprint of the map, and behind it how many batches fewer it has than those that it stands for, if any
+abbrev pub name_of : List ℕ → ℕ → List ℕ
+name_of fingerprint skipped = if skipped == 0 then fingerprint else fingerprint ++ sequence_bytes skipped
+
+-- a name that is longer than a fingerprint is that of a journal that was compacted
+abbrev pub signature_of : List ℕ → List ℕ
+signature_of name = if length name == 32 then signature else compacted_signature
+
+-- the header: the signature, and the name of the journal
+abbrev pub header : List ℕ → List ℕ
+header name = signature_of name ++ name
+
+module _ (digest : List ℕ → List ℕ) (name : List ℕ) where
+  -- the contents of a record: the 8 bytes of its number, the batch, and the digest of both after the name of the journal
   abbrev pub body : List ℕ → List ℕ → List ℕ
-  body sequence batch = sequence ++ (batch ++ digest (fingerprint ++ (sequence ++ batch)))
+  body sequence batch = sequence ++ (batch ++ digest (name ++ (sequence ++ batch)))
 
   -- the record of a batch
   abbrev pub record_of : List ℕ → List ℕ → List ℕ
@@ -31,4 +43,4 @@ module _ (digest : List ℕ → List ℕ) (fingerprint : List ℕ) where
 
   -- the journal of some batches, which have the numbers from 1
   abbrev pub journal_of : List (List ℕ) → List ℕ
-  journal_of batches = header fingerprint ++ records 1 batches
+  journal_of batches = header name ++ records 1 batches

@@ -1,13 +1,14 @@
 //! Laws of the definitions. A law is a function without arguments whose contract states it.
 
 ghost use Rattle.std.specs.Prelude.{ℕ, List};
-ghost use Rattle.journal.specs.Law.{IsDigest, HasOneReading, WrittenIsRead, StopsAnywhere, BeginsAnywhere, DamageIsSeen};
+ghost use Rattle.journal.specs.Law.{IsDigest, HasOneReading, WrittenIsRead, StopsAnywhere, BeginsAnywhere, DamageIsSeen, HasOneName};
 
-/// The promises of the format, for any digest and the journal of any map.
+/// The promises of the format, for any digest and any name of a journal.
 pub fn promises()
-    ensures one { (digest : List ℕ → List ℕ) (fingerprint : List ℕ) → IsDigest digest → HasOneReading digest fingerprint }
-    ensures written { (digest : List ℕ → List ℕ) (fingerprint : List ℕ) → IsDigest digest → WrittenIsRead digest fingerprint }
-    ensures stops { (digest : List ℕ → List ℕ) (fingerprint : List ℕ) → IsDigest digest → StopsAnywhere digest fingerprint }
-    ensures begins { (digest : List ℕ → List ℕ) (fingerprint : List ℕ) → IsDigest digest → BeginsAnywhere digest fingerprint }
-    ensures damage { (digest : List ℕ → List ℕ) (fingerprint : List ℕ) → IsDigest digest → DamageIsSeen digest fingerprint }
+    ensures one { (digest : List ℕ → List ℕ) (name : List ℕ) → IsDigest digest → HasOneReading digest name }
+    ensures written { (digest : List ℕ → List ℕ) (name : List ℕ) → IsDigest digest → WrittenIsRead digest name }
+    ensures stops { (digest : List ℕ → List ℕ) (name : List ℕ) → IsDigest digest → StopsAnywhere digest name }
+    ensures begins { (digest : List ℕ → List ℕ) (name : List ℕ) → IsDigest digest → BeginsAnywhere digest name }
+    ensures damage { (digest : List ℕ → List ℕ) (name : List ℕ) → IsDigest digest → DamageIsSeen digest name }
+    ensures named { HasOneName }
 {}

@@ -6,7 +6,7 @@ use crate::maps::machine;
 use crate::records::recorded_batches;
 use crate::tape::Tape;
 use history::Blank;
-use journal::push_header;
+use journal::{JournalName, push_header};
 use journalfile::{Journal, Keeps, Recovered, recover};
 use mapmachine::Machine;
 use mapshare::{Accepted, KeepFailed, Retried, Sharing, open};
@@ -15,7 +15,10 @@ use std::marker::Brand;
 use std::sync::Wait;
 use test_tables::{TableFault, check_rows};
 
-const FINGERPRINT: [u8; 32] = [7; 32];
+const JOURNAL: JournalName = JournalName {
+    fingerprint: [7; 32],
+    skipped: 0,
+};
 
 // Batches that are accepted, as far as they are, and what keeps them.
 #[derive(Drop)]
@@ -70,7 +73,7 @@ fn text_of(alloc: Global, accepted: Result<Accepted, KeepFailed>) -> Result<Stri
 
 // How many records there are in a journal.
 fn records_in(alloc: Global, bytes: &[u8]) -> usize {
-    match recorded_batches(alloc, &FINGERPRINT, bytes) {
+    match recorded_batches(alloc, &JOURNAL, bytes) {
         Ok(batches) => batches.len(),
         Err(_) => usize::MAX,
     }
@@ -84,18 +87,19 @@ fn result_of<R: AllocGlobal + Wait>(
 ) -> Result<String, AllocError> {
     let alloc = rt.alloc();
     let mut bytes = Vec::new(alloc);
-    push_header(&mut bytes, &FINGERPRINT)?;
+    push_header(&mut bytes, &JOURNAL)?;
     let mut log = Tape::new(alloc, bytes, room);
     let mut machine = machine(alloc, "a")?;
-    let Ok(Recovered { count, .. }) = recover(alloc, &FINGERPRINT, &mut log, &mut machine) else {
+    let Ok(Recovered { count, .. }) = recover(alloc, &JOURNAL, &mut log, &mut machine) else {
         return String::from_str(alloc, "not opened");
     };
     let before = log.syncs();
     let keeper = Journal {
         alloc,
         log,
-        fingerprint: FINGERPRINT,
+        name: JOURNAL,
         count,
+        length: 0,
     };
     let submission = Submission { keeper, batches };
     let Some((journal, outcome)) = accept::<Brand, Journal<Tape>, R>(

@@ -3,13 +3,16 @@
 use crate::maps::machine;
 use crate::records::recorded_batches;
 use crate::tape::Tape;
-use journal::{push_header, push_record};
+use journal::{JournalName, push_header, push_record};
 use journalfile::{Journal, Recovered, recover};
 use std::alloc::{AllocError, Global};
 use std::slice::from_ref;
 use std::test::Fail;
 
-const FINGERPRINT: [u8; 32] = [7; 32];
+const JOURNAL: JournalName = JournalName {
+    fingerprint: [7; 32],
+    skipped: 0,
+};
 
 // The layer's name is U+06DC, whose first byte is an ESC.
 const NAME: &str = "\u{6dc}";
@@ -19,9 +22,9 @@ const BATCHES: [&[u8]; 3] = [b"OFF \xdb\x9c\n", b"", b"ON \xdb\x9c\n"];
 // The journal of the first batches.
 fn journal_of(alloc: Global, count: usize) -> Result<Vec<u8>, AllocError> {
     let mut bytes = Vec::new(alloc);
-    push_header(&mut bytes, &FINGERPRINT)?;
+    push_header(&mut bytes, &JOURNAL)?;
     for at in 0..count.min(BATCHES.len()) {
-        push_record(&mut bytes, &FINGERPRINT, at as u64 + 1, BATCHES[at])?;
+        push_record(&mut bytes, &JOURNAL, at as u64 + 1, BATCHES[at])?;
     }
     Ok(bytes)
 }
@@ -30,7 +33,7 @@ fn journal_of(alloc: Global, count: usize) -> Result<Vec<u8>, AllocError> {
 fn found(alloc: Global, bytes: &[u8]) -> Result<u64, AllocError> {
     let mut tape = Tape::new(alloc, bytes.to_vec(alloc)?, 0);
     let mut machine = machine(alloc, NAME)?;
-    match recover(alloc, &FINGERPRINT, &mut tape, &mut machine) {
+    match recover(alloc, &JOURNAL, &mut tape, &mut machine) {
         Ok(recovered) => Ok(recovered.count),
         Err(_) => Ok(99),
     }
@@ -38,7 +41,7 @@ fn found(alloc: Global, bytes: &[u8]) -> Result<u64, AllocError> {
 
 // Whether these bytes are a journal of the first of the batches, so many of them.
 fn are_first(alloc: Global, bytes: &[u8], count: u64) -> bool {
-    let Ok(found) = recorded_batches(alloc, &FINGERPRINT, bytes) else {
+    let Ok(found) = recorded_batches(alloc, &JOURNAL, bytes) else {
         return false;
     };
     let are_equal = found
@@ -52,7 +55,7 @@ fn are_first(alloc: Global, bytes: &[u8], count: u64) -> bool {
 fn keep(alloc: Global, tape: Tape, batches: &[Vec<u8>]) -> Result<(Tape, bool), AllocError> {
     let mut tape = tape;
     let mut machine = machine(alloc, NAME)?;
-    let Ok(Recovered { count, .. }) = recover(alloc, &FINGERPRINT, &mut tape, &mut machine) else {
+    let Ok(Recovered { count, .. }) = recover(alloc, &JOURNAL, &mut tape, &mut machine) else {
         return Ok((tape, false));
     };
     if count > 9 || batches.len() > 9 {
@@ -61,8 +64,9 @@ fn keep(alloc: Global, tape: Tape, batches: &[Vec<u8>]) -> Result<(Tape, bool), 
     let mut journal = Journal {
         alloc,
         log: tape,
-        fingerprint: FINGERPRINT,
+        name: JOURNAL,
         count,
+        length: 0,
     };
     let is_kept = journal.put(batches).is_ok();
     Ok((journal.log, is_kept))

@@ -10,9 +10,17 @@ pub use tape::{Tape, TapeFailed};
 #[cfg(test)]
 mod accepting;
 #[cfg(test)]
+mod checkpoints;
+#[cfg(test)]
+mod compacted;
+#[cfg(test)]
+mod compaction_crashes;
+#[cfg(test)]
 mod crashes;
 #[cfg(test)]
 mod digests;
+#[cfg(test)]
+mod headers;
 #[cfg(test)]
 mod maps;
 #[cfg(test)]
@@ -21,3 +29,7 @@ mod pieces;
 mod records;
 #[cfg(test)]
 mod short_reads;
+#[cfg(test)]
+mod starts;
+#[cfg(test)]
+mod written;

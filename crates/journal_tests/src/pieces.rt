@@ -2,12 +2,15 @@
 
 use crate::maps::machine;
 use crate::short_reads::ShortReads;
-use journal::{push_header, push_record};
+use journal::{JournalName, push_header, push_record};
 use journalfile::{RecoverFault, Recovered, recover};
 use std::alloc::{AllocError, Global};
 use std::test::Fail;
 
-const FINGERPRINT: [u8; 32] = [7; 32];
+const JOURNAL: JournalName = JournalName {
+    fingerprint: [7; 32],
+    skipped: 0,
+};
 
 // The bytes that are read at a time.
 const PIECE: usize = 65_536;
@@ -29,10 +32,10 @@ fn batch_of(alloc: Global, length: usize) -> Result<Vec<u8>, AllocError> {
 // The journal of batches of these lengths.
 fn journal_of(alloc: Global, lengths: &[usize]) -> Result<Vec<u8>, AllocError> {
     let mut bytes = Vec::new(alloc);
-    push_header(&mut bytes, &FINGERPRINT)?;
+    push_header(&mut bytes, &JOURNAL)?;
     for (at, length) in lengths.iter().enumerate() {
         let batch = batch_of(alloc, *length)?;
-        push_record(&mut bytes, &FINGERPRINT, at as u64 + 1, batch.as_slice())?;
+        push_record(&mut bytes, &JOURNAL, at as u64 + 1, batch.as_slice())?;
     }
     Ok(bytes)
 }
@@ -50,8 +53,8 @@ fn log_of(bytes: Vec<u8>, most: usize) -> ShortReads {
 // How a start on a log ends.
 fn start(alloc: Global, log: &mut ShortReads) -> Result<String, AllocError> {
     let mut machine = machine(alloc, "a")?;
-    match recover(alloc, &FINGERPRINT, log, &mut machine) {
-        Ok(Recovered { count, cut }) => format!(in alloc; "{count} batches, {cut} bytes cut"),
+    match recover(alloc, &JOURNAL, log, &mut machine) {
+        Ok(Recovered { count, cut, .. }) => format!(in alloc; "{count} batches, {cut} bytes cut"),
         Err(RecoverFault::Damaged(count)) => format!(in alloc; "damaged after record {count}"),
         Err(RecoverFault::Failed(_)) => String::from_str(alloc, "failed"),
         Err(_) => String::from_str(alloc, "another fault"),
@@ -134,14 +137,15 @@ fn a_record_follows_damage_after_more_than_a_piece(rt: HostRuntime) -> Result<()
     Ok(())
 }
 
-// Five reads have bytes and the sixth finds the end. Of the tail of 70,000 bytes two have bytes once more, and the ninth finds the end.
+// The first read is for the header. After it five reads have bytes and the seventh finds the end. Of the tail of 70,000 bytes two have bytes
+// once more, and the tenth finds the end.
 #[test]
 fn each_read_fails_in_turn(rt: HostRuntime) -> Result<(), Fail> {
     let alloc = rt.alloc();
     let kept = journal_of(alloc, &[70_000, 131_072])?.len();
     let mut bytes = journal_of(alloc, &[70_000, 131_072, 131_072])?;
     bytes.truncate(kept + 70_000);
-    for failing in 0..9 {
+    for failing in 0..10 {
         let mut log = log_of(bytes.clone()?, PIECE);
         log.failing = Some(failing);
         let found = start(alloc, &mut log)?;
@@ -151,6 +155,6 @@ fn each_read_fails_in_turn(rt: HostRuntime) -> Result<(), Fail> {
     let mut log = log_of(bytes, PIECE);
     let found = start(alloc, &mut log)?;
     assert_eq!(rt; found.as_str(), "2 batches, 70000 bytes cut");
-    assert_eq!(rt; log.reads, 9);
+    assert_eq!(rt; log.reads, 10);
     Ok(())
 }

@@ -4,7 +4,7 @@ ghost use Rattle.std.specs.Prelude.{◌≡◌, ◌⊎◌, ◌≤◌, [], ◌∷�
 ghost use Rattle.std.proofs.Common.{inl};
 ghost use Rattle.journal_tests.specs.Tape.{IsLeft, WasOnce, only_here};
 
-use journalfile::Log;
+use journalfile::{Log, Replaceable};
 use std::alloc::{AllocError, Global};
 
 /// The tape has stopped.
@@ -24,7 +24,7 @@ pub struct Tape {
     alloc: Global,
     bytes: Vec<u8>,
     synced: usize,
-    past: Vec<Moment>,
+    pub(crate) past: Vec<Moment>,
     // How many bytes are still taken. The call that has no room for all of its bytes takes the first of them, and no later call works.
     room: usize,
     has_stopped: bool,
@@ -33,7 +33,9 @@ pub struct Tape {
 
 impl Tape {
     /// A tape with these bytes, all of them kept, which stops when it has taken so many more.
-    pub fn new(alloc: Global, bytes: Vec<u8>, room: usize) -> Self {
+    pub fn new(alloc: Global, bytes: Vec<u8>, room: usize) -> Self
+        ensures { result.bytes.items ≡ bytes.items }
+    {
         Tape {
             alloc,
             synced: bytes.len(),
@@ -166,4 +168,36 @@ impl Log for Tape {
         self.syncs = self.syncs.wrapping_add(1);
         Ok(())
     }
+}
+
+// A tape beside another one has the room that is left on that one, which isn't written meanwhile, and what it took is gone once it has the
+// place. It has no past of its own there: the moments of the other one are kept, and the last of them is that before the replacement.
+impl Replaceable for Tape {
+    fn beside(&mut self) -> Result<Self, TapeFailed> {
+        if self.has_stopped {
+            return Err(TapeFailed);
+        }
+        Ok(Tape::new(self.alloc, Vec::new(self.alloc), self.room))
+    }
+
+    fn replace(&mut self, successor: Self) -> Result<(), TapeFailed> {
+        if self.has_stopped {
+            return Err(TapeFailed);
+        }
+        note(self.alloc, &self.bytes, self.synced, &mut self.past)?;
+        let Tape {
+            bytes,
+            synced,
+            room,
+            has_stopped,
+            ..
+        } = successor;
+        self.bytes = bytes;
+        self.synced = synced;
+        self.room = room;
+        self.has_stopped = has_stopped;
+        Ok(())
+    }
+
+    fn discard(self) {}
 }

@@ -6,3 +6,7 @@ pub mod Replaying
 pub mod Opening
 pub mod Counting
 pub mod Judging
+pub mod Headers
+pub mod Batches
+pub mod Succeeding
+pub mod Skipping

@@ -14,43 +14,43 @@ use Rattle.journalfile.specs.Log.{Torn, Cut}
 use Rattle.journalfile.specs.Settled.{GarblesNoRecord}
 use Rattle.journalfile.specs.Steps.{MayCut}
 
-module _ (fingerprint : List ℕ) where
+module _ (name : List ℕ) where
   -- the bytes that a crash leaves of the append of records
-  pub add_crash : (garbled : List ℕ → Type 0) → GarblesNoRecord garbled fingerprint → (batches more : List (List ℕ)) (c : List ℕ)
-      → Torn garbled (records sha256 fingerprint (length batches + 1) more) (journal_of sha256 fingerprint batches) c → StandsForFirst fingerprint batches more c
-  add_crash garbled shown batches more c (left, is, how) = subst (StandsForFirst fingerprint batches more) (sym is) (by how)
+  pub add_crash : (garbled : List ℕ → Type 0) → GarblesNoRecord garbled name → (batches more : List (List ℕ)) (c : List ℕ)
+      → Torn garbled (records sha256 name (length batches + 1) more) (journal_of sha256 name batches) c → StandsForFirst name batches more c
+  add_crash garbled shown batches more c (left, is, how) = subst (StandsForFirst name batches more) (sym is) (by how)
     where
-      by : IsPrefix left (records sha256 fingerprint (length batches + 1) more) ⊎ garbled left → StandsForFirst fingerprint batches more (journal_of sha256 fingerprint batches ++ left)
-      by (inl first) = stops_at fingerprint batches more left first.0 first.1
-      by (inr garbled) = stands_first fingerprint batches more (journal_of sha256 fingerprint batches ++ left) (stands_torn fingerprint batches left (shown left garbled))
+      by : IsPrefix left (records sha256 name (length batches + 1) more) ⊎ garbled left → StandsForFirst name batches more (journal_of sha256 name batches ++ left)
+      by (inl first) = stops_at name batches more left first.0 first.1
+      by (inr garbled) = stands_first name batches more (journal_of sha256 name batches ++ left) (stands_torn name batches left (shown left garbled))
 
-  keeps_by : (batches : List (List ℕ)) (tail c rest : List ℕ) → IsTorn sha256 fingerprint tail → length (journal_of sha256 fingerprint batches) ≤ length c
-      → Overlaps sha256 fingerprint length-sha256 c rest (journal_of sha256 fingerprint batches) tail → StandsFor fingerprint c batches
+  keeps_by : (batches : List (List ℕ)) (tail c rest : List ℕ) → IsTorn sha256 name tail → length (journal_of sha256 name batches) ≤ length c
+      → Overlaps sha256 name length-sha256 c rest (journal_of sha256 name batches) tail → StandsFor name c batches
   keeps_by batches tail c rest torn long (Within more some is split) =
-      subst (λ (file : List ℕ). StandsFor fingerprint file batches) (sym is) (stands_torn fingerprint batches more (torn_front sha256 fingerprint more rest (subst (IsTorn sha256 fingerprint) split torn)))
+      subst (λ (file : List ℕ). StandsFor name file batches) (sym is) (stands_torn name batches more (torn_front sha256 name more rest (subst (IsTorn sha256 name) split torn)))
   keeps_by batches tail c rest torn long (Beyond [] is split) =
-      subst (λ (file : List ℕ). StandsFor fingerprint file batches) (is ∙ append-nil c) (stands fingerprint batches)
+      subst (λ (file : List ℕ). StandsFor name file batches) (is ∙ append-nil c) (stands name batches)
   keeps_by batches tail c rest torn long (Beyond (m ∷ more) is split) = absurd (omega (arith, ap length is, length-append c (m ∷ more)))
 
   -- any cut of a torn end leaves the batches
-  pub cut_keeps : (batches : List (List ℕ)) (tail file c : List ℕ) (end : ℕ) → IsTorn sha256 fingerprint tail → file ≡ journal_of sha256 fingerprint batches ++ tail
-      → end + length tail ≡ length file → Cut end file c → StandsFor fingerprint c batches
+  pub cut_keeps : (batches : List (List ℕ)) (tail file c : List ℕ) (end : ℕ) → IsTorn sha256 name tail → file ≡ journal_of sha256 name batches ++ tail
+      → end + length tail ≡ length file → Cut end file c → StandsFor name c batches
   cut_keeps batches tail file c end torn is ends cut =
-      let J = journal_of sha256 fingerprint batches in
+      let J = journal_of sha256 name batches in
       let long : length J ≤ length c = omega (arith, cut.no_shorter, ends, ap length is, length-append J tail) in
-      keeps_by batches tail c cut.front.0 torn long (overlap sha256 fingerprint length-sha256 c cut.front.0 J tail (cut.front.1 ∙ is))
+      keeps_by batches tail c cut.front.0 torn long (overlap sha256 name length-sha256 c cut.front.0 J tail (cut.front.1 ∙ is))
 
-  pub cut_done : (batches : List (List ℕ)) (tail file : List ℕ) (end : ℕ) → file ≡ journal_of sha256 fingerprint batches ++ tail → end + length tail ≡ length file → take end file ≡ journal_of sha256 fingerprint batches
+  pub cut_done : (batches : List (List ℕ)) (tail file : List ℕ) (end : ℕ) → file ≡ journal_of sha256 name batches ++ tail → end + length tail ≡ length file → take end file ≡ journal_of sha256 name batches
   cut_done batches tail file end is ends =
-      let J = journal_of sha256 fingerprint batches in
+      let J = journal_of sha256 name batches in
       ap (λ (l : List ℕ). take end l) is ∙ take_at J tail end (omega (arith, ends, ap length is, length-append J tail))
 
   -- the bytes that a crash may leave of the cut of a torn end
-  pub cut_crash : (may_leave : List ℕ → Type 0) (batches : List (List ℕ)) (tail file c : List ℕ) (end : ℕ) → IsTorn sha256 fingerprint tail → file ≡ journal_of sha256 fingerprint batches ++ tail
-      → end + length tail ≡ length file → ((f : List ℕ) → may_leave f → f ≡ file) → MayCut end may_leave c → StandAlike fingerprint file c
+  pub cut_crash : (may_leave : List ℕ → Type 0) (batches : List (List ℕ)) (tail file c : List ℕ) (end : ℕ) → IsTorn sha256 name tail → file ≡ journal_of sha256 name batches ++ tail
+      → end + length tail ≡ length file → ((f : List ℕ) → may_leave f → f ≡ file) → MayCut end may_leave c → StandAlike name file c
   cut_crash may_leave batches tail file c end torn is ends only (inl now) =
-      let here = subst (λ (f : List ℕ). StandsFor fingerprint f batches) (sym is) (stands_torn fingerprint batches tail torn) in
-      (batches, here, subst (λ (f : List ℕ). StandsFor fingerprint f batches) (sym (only c now)) here)
+      let here = subst (λ (f : List ℕ). StandsFor name f batches) (sym is) (stands_torn name batches tail torn) in
+      (batches, here, subst (λ (f : List ℕ). StandsFor name f batches) (sym (only c now)) here)
   cut_crash may_leave batches tail file c end torn is ends only (inr (d, left, cut)) =
-      let here = subst (λ (f : List ℕ). StandsFor fingerprint f batches) (sym is) (stands_torn fingerprint batches tail torn) in
+      let here = subst (λ (f : List ℕ). StandsFor name f batches) (sym is) (stands_torn name batches tail torn) in
       (batches, here, cut_keeps batches tail file c end torn is ends (subst (λ (f : List ℕ). Cut end f c) (only d left) cut))

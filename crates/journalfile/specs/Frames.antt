@@ -40,5 +40,5 @@ pub record IsPiece (file : List ℕ) (offset : ℕ) (piece : List ℕ) : Type 0 
 
 -- a whole record begins at some byte that is left; or none does, and the file was read to its end
 abbrev pub IsSearched : List ℕ → List ℕ → Ahead → Ahead → Bool → Type 0
-IsSearched fingerprint file old new true = ContainsRecord sha256 fingerprint (drop old.position file)
-IsSearched fingerprint file old new false = (ContainsRecord sha256 fingerprint (drop old.position file) → ⊥) × (drop new.position file ≡ [])
+IsSearched name file old new true = ContainsRecord sha256 name (drop old.position file)
+IsSearched name file old new false = (ContainsRecord sha256 name (drop old.position file) → ⊥) × (drop new.position file ≡ [])

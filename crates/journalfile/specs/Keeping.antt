@@ -1,16 +1,51 @@
--- Keepers of batches: a settled journal stands for its batches, and a keeper may be missing.
-use Rattle.std.specs.Prelude.{ℕ, List, Option, None, Some}
+-- Keepers of batches: a journal has batches, or fewer that lead to the same state, and a keeper may be missing.
+use Rattle.std.specs.Prelude.{◌<◌, ◌^◌, ℕ, List, Option, None, Some}
 use Rattle.std.proofs.Common.{sym, ◌∙◌, subst}
+use Rattle.batches.specs.Batch.{accepted}
+use Rattle.compaction.specs.Compacted.{skipping}
+use Rattle.sharing.specs.Shortened.{IsShortOf}
+use Rattle.journal.specs.Name.{name_bytes}
+use Rattle.journal.specs.Record.{name_of}
 use Rattle.journal.specs.Reading.{StandsFor}
 use Rattle.journal.proofs.Standing.{stands}
-use Rattle.journalfile.specs.Settled.{IsSettled}
+use Rattle.journalfile.specs.Settled.{GarblesNoRecord, IsSettled}
 use Rattle.journalfile.specs.declared.writing.Journal.{Journal}
+
+-- a settled journal has these batches, or fewer that lead to the same state
+pub record JournalHas {L : Type 0} (content : L → List ℕ) (may_leave : L → List ℕ → Type 0) (journal : Journal L) (batches : List (List ℕ)) : Type 0 where
+  pub own : List (List ℕ)
+  pub settled : IsSettled content may_leave journal own
+  pub short : IsShortOf accepted skipping journal.name.skipped own batches
+  pub bounded : journal.name.skipped < 2 ^ 64
+
+-- a file has these batches, or fewer that lead to the same state: it stands for them under the name that says how many fewer they are
+pub record FileHas (fingerprint file : List ℕ) (batches : List (List ℕ)) : Type 0 where
+  pub skipped : ℕ
+  pub own : List (List ℕ)
+  pub stands : StandsFor (name_of fingerprint skipped) file own
+  pub short : IsShortOf accepted skipping skipped own batches
+  pub bounded : skipped < 2 ^ 64
+
+-- where the log is reliable, a journal has these batches or fewer that lead to the same state, and no crash makes a record, whatever its name
+abbrev pub KeepsShorter : {L : Type 0} → Type 0 → (List ℕ → Type 0) → (L → List ℕ) → (L → List ℕ → Type 0) → Journal L → List (List ℕ) → Type 0
+KeepsShorter reliable garbled content may_leave journal batches = reliable → ((name : List ℕ) → GarblesNoRecord garbled name) × JournalHas content may_leave journal batches
 
 -- the bytes that a crash may leave of a settled journal stand for its batches
 pub settled_stands : {L : Type 0} (content : L → List ℕ) (may_leave : L → List ℕ → Type 0) (journal : Journal L) (batches : List (List ℕ))
-    → IsSettled content may_leave journal batches → (file : List ℕ) → may_leave journal.log file → StandsFor journal.fingerprint file batches
+    → IsSettled content may_leave journal batches → (file : List ℕ) → may_leave journal.log file → StandsFor (name_bytes journal.name) file batches
 settled_stands content may_leave journal batches settled file left =
-    subst (λ (l : List ℕ). StandsFor journal.fingerprint l batches) (sym (settled.durable file left ∙ settled.file)) (stands journal.fingerprint batches)
+    subst (λ (l : List ℕ). StandsFor (name_bytes journal.name) l batches) (sym (settled.durable file left ∙ settled.file)) (stands (name_bytes journal.name) batches)
+
+-- and so they have the batches that the journal has
+pub kept_stands : {L : Type 0} (content : L → List ℕ) (may_leave : L → List ℕ → Type 0) (journal : Journal L) (batches : List (List ℕ))
+    → JournalHas content may_leave journal batches → (file : List ℕ) → may_leave journal.log file → FileHas journal.name.fingerprint file batches
+kept_stands content may_leave journal batches has file left = record {
+  skipped = journal.name.skipped;
+  own = has.own;
+  stands = settled_stands content may_leave journal has.own has.settled file left;
+  short = has.short;
+  bounded = has.bounded;
+}
 
 -- the keeper keeps these batches, if there is one; without a keeper nothing is required
 abbrev pub keeps_of : {K : Type 0} → (K → List (List ℕ) → Type 0) → Option K → List (List ℕ) → Type 0

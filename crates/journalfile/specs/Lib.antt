@@ -3,4 +3,5 @@ pub mod Frames
 pub mod Steps
 pub mod Settled
 pub mod Keeping
+pub mod Compacting
 pub mod Recovery

@@ -1,9 +1,9 @@
 -- The opening of a journal (docs/SERVICE.md, "Journal").
-use Rattle.std.specs.Prelude.{◌≡◌, ℕ, ◌+◌, ◌≤◌, List, ◌++◌, Some, None, length, drop}
+use Rattle.std.specs.Prelude.{◌≡◌, ◌⊎◌, ℕ, ◌+◌, ◌<◌, ◌≤◌, ◌^◌, List, ◌++◌, Some, None, length, drop}
 use Rattle.sha2.specs.Sha256.{sha256}
 use Rattle.batches.specs.Batch.{State, accepted}
 use Rattle.sharing.specs.Sharing.{after}
-use Rattle.journal.specs.Record.{signature, header, records, journal_of}
+use Rattle.journal.specs.Record.{signature, compacted_signature, name_of, header, records, journal_of}
 use Rattle.journal.specs.Reading.{StartsWithNumber, ContainsRecord, Reads, IsTorn, StandsFor}
 use Rattle.journal.specs.declared.header.HeaderFault.{HeaderFault}
 use Rattle.journal.specs.declared.header.HeaderFault.TheVariants as header_fault
@@ -13,7 +13,7 @@ use Rattle.journalfile.specs.declared.recovery.RecoverFault.{RecoverFault}
 use Rattle.journalfile.specs.declared.recovery.RecoverFault.TheVariants as recover_fault
 use Rattle.journalfile.specs.declared.recovery.Judged.{Judged}
 
-module _ (fingerprint : List ℕ) where
+module _ (name : List ℕ) where
   -- the batches of some records, as many as the count, led from one state to another. Where the log is reliable, they stand in the file from one
   -- offset to another, and the next record doesn't follow
   pub record HasReplayed (reliable : Type 0) (file : List ℕ) (start : ℕ) (first last : State) (count end : ℕ) : Type 0 where
@@ -21,22 +21,22 @@ module _ (fingerprint : List ℕ) where
     pub counted : count ≡ length batches
     pub after : after accepted first batches ≡ Some last
     pub inside : reliable → end ≤ length file
-    pub split : reliable → drop start file ≡ records sha256 fingerprint 1 batches ++ drop end file
-    pub longest : reliable → StartsWithNumber sha256 fingerprint (count + 1) (drop end file) → ⊥
+    pub split : reliable → drop start file ≡ records sha256 name 1 batches ++ drop end file
+    pub longest : reliable → StartsWithNumber sha256 name (count + 1) (drop end file) → ⊥
 
   -- the batches of a journal led from one state to another. Where the log is reliable, the file is their journal up to an offset, and a torn tail
   pub record HasJudged (reliable : Type 0) (file : List ℕ) (first last : State) (judged : Judged) : Type 0 where
     pub batches : List (List ℕ)
     pub counted : judged.count ≡ length batches
     pub after : after accepted first batches ≡ Some last
-    pub whole : reliable → file ≡ journal_of sha256 fingerprint batches ++ drop judged.end file
-    pub torn : reliable → IsTorn sha256 fingerprint (drop judged.end file)
+    pub whole : reliable → file ≡ journal_of sha256 name batches ++ drop judged.end file
+    pub torn : reliable → IsTorn sha256 name (drop judged.end file)
     pub ends : reliable → judged.end + judged.cut ≡ length file
 
   -- some bytes begin with the records of some batches, of which the last, whose number this is, isn't accepted
   abbrev pub IsRefusedAt : List ℕ → State → ℕ → Type 0
   IsRefusedAt bytes old number =
-      (batches : List (List ℕ)) × (rest : List ℕ) × (bytes ≡ records sha256 fingerprint 1 batches ++ rest) × (number ≡ length batches) × (after accepted old batches ≡ None)
+      (batches : List (List ℕ)) × (rest : List ℕ) × (bytes ≡ records sha256 name 1 batches ++ rest) × (number ≡ length batches) × (after accepted old batches ≡ None)
 
   -- a batch isn't accepted, memory was refused or the log failed
   abbrev pub IsReplayFault : {F : Type 0} → List ℕ → State → RecoverFault F → Type 0
@@ -53,25 +53,37 @@ module _ (fingerprint : List ℕ) where
       pub batches : List (List ℕ)
       pub counted : recovered.count ≡ length batches
       pub after : after accepted first batches ≡ Some last
-      pub stood : reliable → StandsFor fingerprint (content old) batches
-      pub journal : reliable → content new ≡ journal_of sha256 fingerprint batches
+      pub stood : reliable → StandsFor name (content old) batches
+      pub journal : reliable → content new ≡ journal_of sha256 name batches
       pub durable : reliable → Only (content new) (may_leave new)
       pub cut : reliable → length (content old) ≡ length (content new) + recovered.cut
+      pub long : reliable → length (content new) ≡ recovered.length
 
     -- the header isn't that of the map's journal
     abbrev pub IsHeaderFault : L → HeaderFault → Type 0
-    IsHeaderFault old header_fault.NotAJournal = (rest : List ℕ) → content old ≡ signature ++ rest → ⊥
-    IsHeaderFault old header_fault.OtherMap = (rest : List ℕ) → content old ≡ header fingerprint ++ rest → ⊥
+    IsHeaderFault old header_fault.NotAJournal = (rest : List ℕ) → content old ≡ signature ++ rest ⊎ content old ≡ compacted_signature ++ rest → ⊥
+    IsHeaderFault old header_fault.OtherMap = (rest : List ℕ) → content old ≡ header name ++ rest → ⊥
 
     -- why it isn't opened; the bytes are as they were, unless the log failed
     abbrev pub IsFaultOf : {F : Type 0} → L → L → State → RecoverFault F → Type 0
     IsFaultOf old new first (recover_fault.Header fault) = IsHeaderFault old fault × (content new ≡ content old)
     IsFaultOf old new first (recover_fault.Damaged count) =
-        ((batches : List (List ℕ)) × (tail : List ℕ) × Reads sha256 fingerprint (content old) batches tail × ContainsRecord sha256 fingerprint tail × (count ≡ length batches)) × (content new ≡ content old)
+        ((batches : List (List ℕ)) × (tail : List ℕ) × Reads sha256 name (content old) batches tail × ContainsRecord sha256 name tail × (count ≡ length batches)) × (content new ≡ content old)
     IsFaultOf old new first (recover_fault.Refused number) =
-        ((rest : List ℕ) × (content old ≡ header fingerprint ++ rest) × IsRefusedAt rest first number) × (content new ≡ content old)
+        ((rest : List ℕ) × (content old ≡ header name ++ rest) × IsRefusedAt rest first number) × (content new ≡ content old)
     IsFaultOf old new first recover_fault.NoMemory = content new ≡ content old
     IsFaultOf old new first (recover_fault.Failed failure) = Unit {0}
+
+-- why the header isn't read: it is that of no journal of the map, memory was refused or the log failed
+abbrev pub IsNameFault : {L F : Type 0} → List ℕ → (L → List ℕ) → L → L → RecoverFault F → Type 0
+IsNameFault fingerprint content old new (recover_fault.Header header_fault.NotAJournal) =
+    ((rest : List ℕ) → content old ≡ signature ++ rest ⊎ content old ≡ compacted_signature ++ rest → ⊥) × (content new ≡ content old)
+IsNameFault fingerprint content old new (recover_fault.Header header_fault.OtherMap) =
+    ((skipped : ℕ) (rest : List ℕ) → skipped < 2 ^ 64 → content old ≡ header (name_of fingerprint skipped) ++ rest → ⊥) × (content new ≡ content old)
+IsNameFault fingerprint content old new (recover_fault.Damaged count) = ⊥
+IsNameFault fingerprint content old new (recover_fault.Refused number) = ⊥
+IsNameFault fingerprint content old new recover_fault.NoMemory = content new ≡ content old
+IsNameFault fingerprint content old new (recover_fault.Failed failure) = Unit {0}
 
 -- memory was refused or the log failed
 abbrev pub IsTransient : {F : Type 0} → RecoverFault F → Type 0

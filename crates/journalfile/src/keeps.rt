@@ -3,11 +3,14 @@
 ghost use Rattle.std.specs.Prelude.{◌≡◌, ◌++◌, ℕ, List, OnOk, Err};
 ghost use mathlib.Core.List.{IsPrefix};
 ghost use Rattle.journal.specs.Texts.{texts_of};
+ghost use Rattle.journal.specs.Name.{name_bytes};
 ghost use Rattle.journal.specs.Reading.{StandsFor};
+ghost use Rattle.journalfile.specs.Keeping.{FileHas, KeepsShorter, keeps_of, kept_stands, may_leave_of, option_stays, settled_stands, stands_of};
 ghost use Rattle.journalfile.specs.Settled.{GarblesNoRecord, IsSettled};
-ghost use Rattle.journalfile.specs.Keeping.{keeps_of, may_leave_of, option_stays, settled_stands, stands_of};
 
+use crate::checkpoint::CompactedJournal;
 use crate::log::Log;
+use crate::replaceable::Replaceable;
 use crate::writing::{Journal, PutFault};
 
 /// Why batches aren't kept.
@@ -82,11 +85,11 @@ impl<K: Keeps> Keeps for Option<K> {
 
 /// A journal keeps batches where its log is reliable.
 impl<L: Log> Keeps for Journal<L> {
-    ghost keeps = { λ journal batches. L.reliable → GarblesNoRecord L.garbled journal.fingerprint × IsSettled L.content L.may_leave journal batches };
+    ghost keeps = { λ journal batches. L.reliable → GarblesNoRecord L.garbled (name_bytes journal.name) × IsSettled L.content L.may_leave journal batches };
 
     ghost may_leave = { λ old new file. L.reliable × L.left_since new.log (L.moment old.log) file };
 
-    ghost stands = { λ journal. StandsFor journal.fingerprint };
+    ghost stands = { λ journal. StandsFor (name_bytes journal.name) };
 
     ghost stays = { λ journal batches file kept left. settled_stands L.content L.may_leave journal batches (kept left.0).1 file (L.only_now left.0 journal.log file left.1) };
 
@@ -98,6 +101,33 @@ impl<L: Log> Keeps for Journal<L> {
             Ok(()) => Ok(()),
             Err(PutFault::NoMemory) => Err(KeepFault::NoMemory),
             Err(PutFault::Failed(_)) => Err(KeepFault::Failed),
+        }
+    }
+}
+
+/// A journal that is compacted where it has grown keeps batches where its log is reliable: once it was, it has fewer that lead to the same state.
+impl<L: Replaceable> Keeps for CompactedJournal<L> {
+    ghost keeps = { λ compacted. KeepsShorter L.Log.reliable L.Log.garbled L.Log.content L.Log.may_leave compacted.journal };
+
+    ghost may_leave = { λ old new file. L.Log.reliable × L.Log.left_since new.journal.log (L.Log.moment old.journal.log) file };
+
+    ghost stands = { λ compacted. FileHas compacted.journal.name.fingerprint };
+
+    ghost stays = { λ compacted batches file kept left. kept_stands L.Log.content L.Log.may_leave compacted.journal batches (kept left.0).1 file
+        (L.Log.only_now left.0 compacted.journal.log file left.1) };
+
+    fn keep(&mut self, batches: &[Vec<u8>]) -> Result<(), KeepFault> {
+        if batches.len() as u64 > u64::MAX - self.journal.count {
+            return Err(KeepFault::NoMemory);
+        }
+        match self.journal.put(batches) {
+            Ok(()) => {}
+            Err(PutFault::NoMemory) => return Err(KeepFault::NoMemory),
+            Err(PutFault::Failed(_)) => return Err(KeepFault::Failed),
+        }
+        match self.compact_where_due() {
+            Ok(()) => Ok(()),
+            Err(_) => Err(KeepFault::Failed),
         }
     }
 }

@@ -4,21 +4,33 @@
 //! moment of the call leaves those from before it, and after them the first of these, or none (`any_moment`). `recover` brings a map
 //! machine to the state after just the batches of the log (`recovered`) or returns why it doesn't (`fault`). It opens each file that
 //! stands for accepted batches (`opens`), and may itself be interrupted at any moment (`any_moment`). It reads the log frame by frame,
-//! and so takes memory for the longest record, and not for the log.
+//! and so takes memory for the longest record, and not for the log. `read_skipped` says before that how many batches were left out.
+//!
+//! `Journal::compact` leaves just what `compaction` leaves of its batches (`compacted`), on a log that takes the place of its own: a crash
+//! at any moment leaves the batches before it, or what is left of them (`any_moment`). A `Journal` keeps just the batches that it was
+//! given. A `CompactedJournal` is compacted where it has grown: it then has fewer, which lead to the same state as all of them.
 //!
 //! Terms: a log is *settled* where a crash leaves just its bytes. Bytes *stand for* batches where they are their journal, perhaps
-//! with a torn tail. A *keeper* keeps each accepted batch.
+//! with a torn tail. A *keeper* keeps each accepted batch. A journal or a file *has* batches where it stands for these, or for fewer
+//! that lead to the same state.
 #![tactic(auto)]
 
+mod checkpoint;
+mod compacting;
 mod frames;
+mod header;
 mod keeps;
 mod log;
+mod reading;
 mod records;
 mod recovery;
+mod replaceable;
 mod steps;
 mod writing;
 
+pub use checkpoint::{Checkpoint, CompactedJournal};
 pub use keeps::{KeepFault, Keeps, Nowhere};
 pub use log::Log;
-pub use recovery::{RecoverFault, Recovered, recover};
+pub use recovery::{RecoverFault, Recovered, read_skipped, recover};
+pub use replaceable::Replaceable;
 pub use writing::{Journal, PutFault};

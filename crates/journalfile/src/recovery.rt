@@ -1,19 +1,21 @@
 //! Opening a journal: its batches are applied to a machine once more.
 
-ghost use Rattle.std.specs.Prelude.{◌≡◌, ◌⊎◌, ◌+◌, ◌++◌, ℕ, List, drop, IsSome, IfOk, OnOk, IfErr};
+ghost use Rattle.std.specs.Prelude.{◌≡◌, ◌⊎◌, ◌<◌, ◌+◌, ◌^◌, ◌++◌, ℕ, List, drop, IsSome, IfOk, OnOk, IfErr, MatchResult};
 ghost use Rattle.sharing.specs.Sharing.{after};
 ghost use Rattle.batches.specs.Batch.{State, accepted};
-ghost use Rattle.journal.specs.Record.{header};
+ghost use Rattle.journal.specs.Name.{name_bytes};
+ghost use Rattle.journal.specs.Record.{header, name_of};
 ghost use Rattle.journal.specs.Reading.{StandAlike, StandsFor};
 ghost use Rattle.journalfile.specs.Log.{LeavesOnly, Only};
 ghost use Rattle.journalfile.specs.Frames.{IsAhead, IsRead};
-ghost use Rattle.journalfile.specs.Recovery.{HasJudged, HasRecovered, HasReplayed, IsFaultOf, IsReplayFault, IsTransient};
+ghost use Rattle.journalfile.specs.Recovery.{HasJudged, HasRecovered, HasReplayed, IsFaultOf, IsNameFault, IsReplayFault, IsTransient};
 
 use crate::frames::{Frames, ReadError};
+use crate::header::read_header;
 use crate::log::Log;
 use crate::records::{contains_record, next_record};
 use crate::steps::cut_synced;
-use journal::{HeaderFault, SIGNATURE, after_header};
+use journal::{HeaderFault, JournalName};
 use mapmachine::{BatchError, Machine};
 use std::alloc::Global;
 
@@ -22,6 +24,8 @@ use std::alloc::Global;
 pub struct Recovered {
     /// How many batches it has.
     pub count: u64,
+    /// How many bytes its log has.
+    pub length: usize,
     /// How many bytes of a torn tail were cut off.
     pub cut: usize,
 }
@@ -62,23 +66,29 @@ pub(crate) struct Judged {
     pub(crate) cut: usize,
 }
 
-// Reads the header of the map's journal.
-fn read_header<L: Log>(
+// Reads the header of the journal of a map, which says how many batches were left out.
+fn read_name<L: Log>(
     frames: &mut Frames,
     log: &mut L,
     fingerprint: &[u8; 32],
+    skipped: u64,
 ) -> Result<(), RecoverFault<L::Failure>>
     requires start { frames.old.position ≡ 0 }
     requires ahead { L.reliable → IsAhead (L.content log.old) frames.old }
     ensures ahead { L.reliable → OnOk result (IsAhead (L.content log.old) frames.new) }
-    ensures header { L.reliable → OnOk result (L.content log.old ≡ header fingerprint.now ++ drop frames.new.position (L.content log.old)) }
-    ensures fault { L.reliable → IfErr result (λ fault. (first : State) → IsFaultOf fingerprint.now L.content log.old log.new first fault) }
+    ensures header { L.reliable → OnOk result (L.content log.old ≡ header (name_of fingerprint.now skipped) ++ drop frames.new.position (L.content log.old)) }
+    ensures fault { L.reliable → IfErr result (λ fault. (first : State) → IsFaultOf (name_of fingerprint.now skipped) L.content log.old log.new first fault) }
     ensures read { L.reliable → IsRead L.content L.may_leave L.moment L.left_since log.old log.new }
 {
-    let bytes = frames.next_bytes(log, SIGNATURE.len() + fingerprint.len())?;
-    match after_header(fingerprint, bytes.as_slice()) {
-        Ok(_) => Ok(()),
-        Err(fault) => Err(RecoverFault::Header(fault)),
+    match read_header(frames, log, fingerprint) {
+        Ok(found) => {
+            if found == skipped {
+                Ok(())
+            } else {
+                Err(RecoverFault::Header(HeaderFault::OtherMap))
+            }
+        }
+        Err(fault) => Err(fault),
     }
 }
 
@@ -86,17 +96,17 @@ fn read_header<L: Log>(
 fn replay<L: Log>(
     frames: &mut Frames,
     log: &mut L,
-    fingerprint: &[u8; 32],
+    name: &JournalName,
     machine: &mut Machine,
 ) -> Result<(u64, usize), RecoverFault<L::Failure>>
     requires ahead { L.reliable → IsAhead (L.content log.old) frames.old }
-    ensures replayed { IfOk result (λ r. HasReplayed fingerprint.now L.reliable (L.content log.old) frames.old.position machine.old machine.new r.0 r.1) }
-    ensures fault { L.reliable → IfErr result (IsReplayFault fingerprint.now (drop frames.old.position (L.content log.old)) machine.old) }
+    ensures replayed { IfOk result (λ r. HasReplayed (name_bytes name.now) L.reliable (L.content log.old) frames.old.position machine.old machine.new r.0 r.1) }
+    ensures fault { L.reliable → IfErr result (IsReplayFault (name_bytes name.now) (drop frames.old.position (L.content log.old)) machine.old) }
     ensures read { L.reliable → IsRead L.content L.may_leave L.moment L.left_since log.old log.new }
 {
     let mut count = 0;
     let mut end = frames.position();
-    while let Some(batch) = next_record(frames, log, fingerprint, count + 1)? {
+    while let Some(batch) = next_record(frames, log, name, count + 1)? {
         match machine.batch(batch.as_slice()) {
             Ok(_) => {}
             Err(BatchError::Fault(_)) => return Err(RecoverFault::Refused(count + 1)),
@@ -111,24 +121,24 @@ fn replay<L: Log>(
 // Reads a journal from its start, applies its batches, and looks for records after them.
 fn judge<L: Log>(
     alloc: Global,
-    fingerprint: &[u8; 32],
+    name: &JournalName,
     log: &mut L,
     machine: &mut Machine,
 ) -> Result<Judged, RecoverFault<L::Failure>>
-    ensures judged { IfOk result (HasJudged fingerprint.now L.reliable (L.content log.old) machine.old machine.new) }
-    ensures fault { L.reliable → IfErr result (λ fault. IsFaultOf fingerprint.now L.content log.old log.new machine.old fault) }
+    ensures judged { IfOk result (HasJudged (name_bytes name.now) L.reliable (L.content log.old) machine.old machine.new) }
+    ensures fault { L.reliable → IfErr result (λ fault. IsFaultOf (name_bytes name.now) L.content log.old log.new machine.old fault) }
     ensures read { L.reliable → IsRead L.content L.may_leave L.moment L.left_since log.old log.new }
 {
     let mut frames = Frames::new(alloc);
-    if let Err(fault) = read_header(&mut frames, log, fingerprint) {
+    if let Err(fault) = read_name(&mut frames, log, &name.fingerprint, name.skipped) {
         return Err(fault);
     }
-    let (count, end) = match replay(&mut frames, log, fingerprint, machine) {
+    let (count, end) = match replay(&mut frames, log, name, machine) {
         Ok(replayed) => replayed,
         Err(fault) => return Err(fault),
     };
     frames.go_to(end);
-    if contains_record(&mut frames, log, fingerprint)? {
+    if contains_record(&mut frames, log, name)? {
         return Err(RecoverFault::Damaged(count));
     }
     Ok(Judged {
@@ -141,17 +151,17 @@ fn judge<L: Log>(
 // Syncs a log, and judges the journal on it. Bytes that a killed process had written may not have been synced.
 fn judge_synced<L: Log>(
     alloc: Global,
-    fingerprint: &[u8; 32],
+    name: &JournalName,
     log: &mut L,
     machine: &mut Machine,
 ) -> Result<Judged, RecoverFault<L::Failure>>
-    ensures judged { IfOk result (HasJudged fingerprint.now L.reliable (L.content log.old) machine.old machine.new) }
+    ensures judged { IfOk result (HasJudged (name_bytes name.now) L.reliable (L.content log.old) machine.old machine.new) }
     ensures durable { L.reliable → OnOk result (Only (L.content log.old) (L.may_leave log.new)) }
-    ensures fault { L.reliable → IfErr result (λ fault. IsFaultOf fingerprint.now L.content log.old log.new machine.old fault) }
+    ensures fault { L.reliable → IfErr result (λ fault. IsFaultOf (name_bytes name.now) L.content log.old log.new machine.old fault) }
     ensures read { L.reliable → IsRead L.content L.may_leave L.moment L.left_since log.old log.new }
 {
     match log.sync() {
-        Ok(()) => judge(alloc, fingerprint, log, machine),
+        Ok(()) => judge(alloc, name, log, machine),
         Err(failure) => Err(RecoverFault::Failed(failure)),
     }
 }
@@ -159,22 +169,47 @@ fn judge_synced<L: Log>(
 // Opens a journal. That a file which stands for accepted batches is opened is a clause of `recover`.
 fn open_log<L: Log>(
     alloc: Global,
-    fingerprint: &[u8; 32],
+    name: &JournalName,
     log: &mut L,
     machine: &mut Machine,
 ) -> Result<Recovered, RecoverFault<L::Failure>>
-    ensures recovered { IfOk result (HasRecovered fingerprint.now L.content L.reliable L.may_leave log.old log.new machine.old machine.new) }
-    ensures fault { L.reliable → IfErr result (λ fault. IsFaultOf fingerprint.now L.content log.old log.new machine.old fault) }
+    ensures recovered { IfOk result (HasRecovered (name_bytes name.now) L.content L.reliable L.may_leave log.old log.new machine.old machine.new) }
+    ensures fault { L.reliable → IfErr result (λ fault. IsFaultOf (name_bytes name.now) L.content log.old log.new machine.old fault) }
     ensures any_moment { L.reliable → LeavesOnly L.moment L.left_since log.old log.new
-        (λ c. L.may_leave log.old c ⊎ StandAlike fingerprint.now (L.content log.old) c) }
+        (λ c. L.may_leave log.old c ⊎ StandAlike (name_bytes name.now) (L.content log.old) c) }
 {
-    let Judged { count, end, cut } = match judge_synced(alloc, fingerprint, log, machine) {
+    let Judged { count, end, cut } = match judge_synced(alloc, name, log, machine) {
         Ok(judged) => judged,
         Err(fault) => return Err(fault),
     };
     match cut_synced(log, end) {
-        Ok(()) => Ok(Recovered { count, cut }),
+        Ok(()) => Ok(Recovered {
+            count,
+            length: end,
+            cut,
+        }),
         Err(failure) => Err(RecoverFault::Failed(failure)),
+    }
+}
+
+/// How many batches were left out of the journal of a map, as its header says. The machine that is given to `recover` has published
+/// as many.
+pub fn read_skipped<L: Log>(
+    alloc: Global,
+    fingerprint: &[u8; 32],
+    log: &mut L,
+) -> Result<u64, RecoverFault<L::Failure>>
+    ensures header { L.reliable → IfOk result (λ skipped. (rest : List ℕ) × (L.content log.old ≡ header (name_of fingerprint.now skipped) ++ rest)) }
+    ensures fault { L.reliable → IfErr result (λ fault. IsNameFault fingerprint.now L.content log.old log.new fault) }
+    ensures read { L.reliable → IsRead L.content L.may_leave L.moment L.left_since log.old log.new }
+
+    // Of a file that stands for batches the number is returned, unless memory is refused or the log fails.
+    ensures opens { L.reliable → (skipped : ℕ) (batches : List (List ℕ)) → skipped < 2 ^ 64
+        → StandsFor (name_of fingerprint.now skipped) (L.content log.old) batches → MatchResult result (λ found. found ≡ skipped) IsTransient }
+{
+    match read_header(&mut Frames::new(alloc), log, fingerprint) {
+        Ok(skipped) => Ok(skipped),
+        Err(fault) => Err(fault),
     }
 }
 
@@ -184,23 +219,23 @@ fn open_log<L: Log>(
 /// After a fault the state of the machine is unspecified.
 pub fn recover<L: Log>(
     alloc: Global,
-    fingerprint: &[u8; 32],
+    name: &JournalName,
     log: &mut L,
     machine: &mut Machine,
 ) -> Result<Recovered, RecoverFault<L::Failure>>
-    ensures recovered { IfOk result (HasRecovered fingerprint.now L.content L.reliable L.may_leave log.old log.new machine.old machine.new) }
+    ensures recovered { IfOk result (HasRecovered (name_bytes name.now) L.content L.reliable L.may_leave log.old log.new machine.old machine.new) }
     ensures counted { IfOk result (λ recovered. machine.new.sequence ≡ machine.old.sequence + recovered.count) }
-    ensures fault { L.reliable → IfErr result (λ fault. IsFaultOf fingerprint.now L.content log.old log.new machine.old fault) }
+    ensures fault { L.reliable → IfErr result (λ fault. IsFaultOf (name_bytes name.now) L.content log.old log.new machine.old fault) }
 
     // A file that stands for accepted batches is opened, unless memory is refused or the log fails.
-    ensures opens { L.reliable → (batches : List (List ℕ)) → StandsFor fingerprint.now (L.content log.old) batches
+    ensures opens { L.reliable → (batches : List (List ℕ)) → StandsFor (name_bytes name.now) (L.content log.old) batches
         → IsSome (after accepted machine.old batches) → IfErr result IsTransient }
 
     // A crash at any moment leaves bytes that a crash before might have left, or bytes that stand for the same batches.
     ensures any_moment { L.reliable → LeavesOnly L.moment L.left_since log.old log.new
-        (λ c. L.may_leave log.old c ⊎ StandAlike fingerprint.now (L.content log.old) c) }
+        (λ c. L.may_leave log.old c ⊎ StandAlike (name_bytes name.now) (L.content log.old) c) }
 {
-    match open_log(alloc, fingerprint, log, machine) {
+    match open_log(alloc, name, log, machine) {
         Ok(recovered) => Ok(recovered),
         Err(fault) => Err(fault),
     }

@@ -3,6 +3,7 @@
 ghost use Rattle.std.specs.Prelude.{◌≡◌, ◌<◌, ◌+◌, ◌^◌, ◌++◌, List, ℕ, length, IfOk, OnOk, Err};
 ghost use Rattle.sha2.specs.Sha256.{sha256};
 ghost use Rattle.journalfile.specs.Log.{LeavesOnly};
+ghost use Rattle.journal.specs.Name.{name_bytes};
 ghost use Rattle.journal.specs.Texts.{texts_of};
 ghost use Rattle.journal.specs.Reading.{StandsForFirst};
 ghost use Rattle.journal.specs.Record.{records};
@@ -10,7 +11,7 @@ ghost use Rattle.journalfile.specs.Settled.{GarblesNoRecord, IsSettled};
 
 use crate::log::Log;
 use crate::steps::append_synced;
-use journal::push_record;
+use journal::{JournalName, push_record};
 use std::alloc::{AllocError, Global};
 
 /// The journal of a map, on a log.
@@ -20,10 +21,12 @@ pub struct Journal<L> {
     pub alloc: Global,
     /// The log that it is on.
     pub log: L,
-    /// The fingerprint of the map.
-    pub fingerprint: [u8; 32],
+    /// Its name.
+    pub name: JournalName,
     /// How many batches it has.
     pub count: u64,
+    /// How many bytes its log has.
+    pub length: u64,
 }
 
 /// Why batches aren't in the journal.
@@ -38,18 +41,18 @@ pub enum PutFault<F> {
 // The records of batches that follow so many others.
 fn records_of(
     alloc: Global,
-    fingerprint: &[u8; 32],
+    name: &JournalName,
     before: u64,
     batches: &[Vec<u8>],
 ) -> Result<Vec<u8>, AllocError>
     requires room { before + length batches.now < 2 ^ 64 }
-    ensures { IfOk result (λ bytes. bytes.items ≡ records sha256 fingerprint.now (before + 1) (texts_of batches.now)) }
+    ensures { IfOk result (λ bytes. bytes.items ≡ records sha256 (name_bytes name.now) (before + 1) (texts_of batches.now)) }
 {
     let mut out = Vec::new(alloc);
     let mut number = before;
     for batch in batches {
         number += 1;
-        push_record(&mut out, fingerprint, number, batch.as_slice())?;
+        push_record(&mut out, name, number, batch.as_slice())?;
     }
     Ok(out)
 }
@@ -58,7 +61,7 @@ impl<L: Log> Journal<L> {
     /// Adds batches, in their order, by one sync. At `Ok` all are kept: each crash from then on leaves a file that has them.
     pub fn put(&mut self, batches: &[Vec<u8>]) -> Result<(), PutFault<L::Failure>>
         // The digests show which bytes a crash has garbled.
-        requires recognised { L.reliable → GarblesNoRecord L.garbled self.old.fingerprint }
+        requires recognised { L.reliable → GarblesNoRecord L.garbled (name_bytes self.old.name) }
         requires settled { L.reliable → (kept : List (List ℕ)) × IsSettled L.content L.may_leave self.old kept }
         requires room { self.old.count + length batches.now < 2 ^ 64 }
 
@@ -67,18 +70,19 @@ impl<L: Log> Journal<L> {
 
         // A crash at any moment of the call leaves the batches from before it, and after them the first of the new ones, or none.
         ensures any_moment { L.reliable → (kept : List (List ℕ)) → IsSettled L.content L.may_leave self.old kept
-            → LeavesOnly L.moment L.left_since self.old.log self.new.log (StandsForFirst self.old.fingerprint kept (texts_of batches.now)) }
+            → LeavesOnly L.moment L.left_since self.old.log self.new.log (StandsForFirst (name_bytes self.old.name) kept (texts_of batches.now)) }
 
         ensures no_memory { result ≡ Err PutFault.NoMemory → self.new ≡ self.old }
-        ensures fingerprint { self.new.fingerprint ≡ self.old.fingerprint }
+        ensures name { self.new.name ≡ self.old.name }
     {
-        let Ok(records) = records_of(self.alloc, &self.fingerprint, self.count, batches) else {
+        let Ok(records) = records_of(self.alloc, &self.name, self.count, batches) else {
             return Err(PutFault::NoMemory);
         };
         if let Err(failure) = append_synced(&mut self.log, records.as_slice()) {
             return Err(PutFault::Failed(failure));
         }
         self.count += batches.len() as u64;
+        self.length = self.length.saturating_add(records.len() as u64);
         Ok(())
     }
 }

@@ -1,16 +1,22 @@
 -- Why a journal isn't opened, without the log's own failure.
 use Rattle.std.proofs.lemmas.Bool.Decides.{nat_tests}
-use Rattle.std.proofs.Common.{arith, subst, sym, ◌≡◌, ◌≢◌, ◌&&◌, ◌==◌, refl, ℕ, zero, suc, Bool, true, false, not, List, ◌++◌, Option, None, Some}
+use Rattle.std.proofs.Common.{◌<◌, ◌^◌, ap, arith, subst, sym, ◌∙◌, ◌≡◌, ◌≢◌, ◌&&◌, ◌==◌, refl, ℕ, zero, suc, Bool, true, false, not, List, ◌++◌, Option, None, Some}
 use Rattle.std.specs.Prelude.{MatchBool}
-use Rattle.journalfile.specs.Keeping.{keeps_of}
-use Rattle.journalfile.specs.Settled.{IsSettled}
+use Rattle.journalfile.proofs.Skipping.{empties, empties_short}
+use Rattle.journalfile.specs.Keeping.{JournalHas, keeps_of}
 use Rattle.journalfile.specs.declared.writing.Journal.{Journal}
 use Rattle.batches.specs.Batch.{State}
 use Rattle.journal.specs.declared.header.HeaderFault.TheVariants as header_fault
-use Rattle.journalfile.specs.Recovery.{IsFaultOf}
+use Rattle.journalfile.specs.Recovery.{IsFaultOf, IsNameFault}
 use Rattle.journalfile.specs.declared.recovery.RecoverFault.{RecoverFault}
 use Rattle.journalfile.specs.declared.recovery.RecoverFault.TheVariants as recover_fault
-use Rattle.program.specs.Journals.{JournalView, KeepsAll, erased, fault_of}
+use Rattle.journalfile.specs.Settled.{IsSettled}
+use Rattle.journalfile.specs.declared.checkpoint.CompactedJournal.{CompactedJournal}
+use Rattle.console.specs.Console.{Outcome, WriterState}
+use Rattle.service.specs.Serving.{ServedValue}
+use Rattle.program.specs.Journals.{JournalView, KeepsAll, KeepsState, erased, fault_of}
+use Rattle.program.specs.Endings.{EndingValue, unserved}
+use Rattle.program.specs.Performing.{Begun, HostView, IsServed, ServesNothing}
 
 -- the fault is that of the recovery without its failure
 pub erased-fault : {F : Type 0} (cause : RecoverFault F) → fault_of cause ≡ fault_of (erased cause)
@@ -21,15 +27,25 @@ erased-fault (recover_fault.Refused number) = refl
 erased-fault recover_fault.NoMemory = refl
 erased-fault (recover_fault.Failed failure) = refl
 
--- and so are the conditions for it
-pub erased-is : {F L : Type 0} (fingerprint : List ℕ) (content : L → List ℕ) (old new : L) (first : State) (cause : RecoverFault F)
-    → IsFaultOf fingerprint content old new first cause → IsFaultOf fingerprint content old new first (erased cause)
-erased-is fingerprint content old new first (recover_fault.Header header_fault.NotAJournal) is = is
-erased-is fingerprint content old new first (recover_fault.Header header_fault.OtherMap) is = is
-erased-is fingerprint content old new first (recover_fault.Damaged number) is = is
-erased-is fingerprint content old new first (recover_fault.Refused number) is = is
-erased-is fingerprint content old new first recover_fault.NoMemory is = is
-erased-is fingerprint content old new first (recover_fault.Failed failure) is = is
+-- and so are the conditions for it, where the bytes before are those of another log
+pub erased-is : {F L : Type 0} (name : List ℕ) (content : L → List ℕ) (given old new : L) (first : State) (cause : RecoverFault F) → content old ≡ content given
+    → IsFaultOf name content old new first cause → IsFaultOf name content given new first (erased cause)
+erased-is name content given old new first (recover_fault.Header header_fault.NotAJournal) same is = rw same at is
+erased-is name content given old new first (recover_fault.Header header_fault.OtherMap) same is = rw same at is
+erased-is name content given old new first (recover_fault.Damaged number) same is = rw same at is
+erased-is name content given old new first (recover_fault.Refused number) same is = rw same at is
+erased-is name content given old new first recover_fault.NoMemory same is = is ∙ same
+erased-is name content given old new first (recover_fault.Failed failure) same is = is
+
+-- those for a header that isn't read
+pub erased-name : {F L : Type 0} (fingerprint : List ℕ) (content : L → List ℕ) (old new : L) (cause : RecoverFault F)
+    → IsNameFault fingerprint content old new cause → IsNameFault fingerprint content old new (erased cause)
+erased-name fingerprint content old new (recover_fault.Header header_fault.NotAJournal) is = is
+erased-name fingerprint content old new (recover_fault.Header header_fault.OtherMap) is = is
+erased-name fingerprint content old new (recover_fault.Damaged number) is = is
+erased-name fingerprint content old new (recover_fault.Refused number) is = is
+erased-name fingerprint content old new recover_fault.NoMemory is = is
+erased-name fingerprint content old new (recover_fault.Failed failure) is = is
 
 -- what is told of a cut that is requested and isn't empty
 pub told : (requested : Bool) (cut : ℕ) (P Q : Type 0) → requested ≡ true → cut ≢ 0 → P → MatchBool (requested && not (cut == 0)) P Q
@@ -38,6 +54,17 @@ told true (suc n) P Q is some p =
     let e : (suc n == 0) ≡ false = grind (arith, nat_tests) in
     subst (λ (b : Bool). MatchBool (true && not b) P Q) (sym e) p
 told false cut P Q is some p = absurd (cc is)
+
+-- an end that served nothing
+pub nothing-served : {P L : Type 0} (ending : EndingValue P L) (outcome : Outcome) → ending ≡ unserved outcome → ServesNothing ending
+nothing-served ending outcome is = is ∙ ap unserved (sym (ap (λ e. e.outcome) is))
+
+-- of two cases by a number that isn't 0 the second
+pub of-some : (n : ℕ) (P Q : Type 0) → (n ≡ 0 → ⊥) → Q → MatchBool (n == 0) P Q
+of-some zero P Q some q = absurd (some refl)
+of-some (suc n) P Q some q =
+    let e : (suc n == 0) ≡ false = grind (arith, nat_tests) in
+    subst (λ (b : Bool). MatchBool b P Q) (sym e) q
 
 -- a keeper that keeps a journal's batches has them all
 module _ {L : Type 0} (view : JournalView L) (recognises : Journal L → Type 0) where
@@ -55,3 +82,29 @@ module _ {L : Type 0} (view : JournalView L) (recognises : Journal L → Type 0)
   pub keeps-all : (keeper last : Option (Journal L)) (some batches more : List (List ℕ)) → keeps keeper some → (keeps keeper batches → keeps last (batches ++ more))
       → KeepsAll view keeper batches → KeepsAll view last (batches ++ more)
   keeps-all keeper last some batches more ready kept all = kept-all last (batches ++ more) (kept (has-kept keeper some batches ready all))
+
+-- a journal that is compacted and keeps batches leads to their state
+module _ {L : Type 0} (view : JournalView L) (recognises : Type 0) where
+  abbrev keeps-state : CompactedJournal L → List (List ℕ) → Type 0
+  keeps-state compacted batches = view.reliable → recognises × JournalHas view.content view.may_leave compacted.journal batches
+
+  pub keeps-states : (keeper last : CompactedJournal L) (some batches more : List (List ℕ)) → keeps-state keeper some → (keeps-state keeper batches → keeps-state last (batches ++ more))
+      → KeepsState view keeper batches → KeepsState view last (batches ++ more)
+  keeps-states keeper last some batches more ready kept all = λ reliable. (kept (λ here. ((ready here).0, all here)) reliable).1
+
+-- a keeper that keeps all of some batches, since another meaning of keeping them is enough, was served alike
+pub served-alike : {P L K : Type 0} (host : HostView P L) (keeps more : K → List (List ℕ) → Type 0) (begun : Begun K) (served : ServedValue P K) (old new : WriterState)
+    → ((batches : List (List ℕ)) → (keeps begun.keeper batches → keeps served.last (batches ++ served.accepted)) → more begun.keeper batches → more served.last (batches ++ served.accepted))
+    → IsServed host keeps begun served old new → IsServed host more begun served old new
+served-alike host keeps more begun served old new alike is =
+    record { began = is.began; listens = is.listens; listens_too = is.listens_too; took = is.took; kept = λ ends batches. alike batches (is.kept ends batches); announced = is.announced }
+
+-- a settled journal that is compacted has its own batches, and as many empty ones before them as were left out of it
+pub settled-has : {L : Type 0} (content : L → List ℕ) (may_leave : L → List ℕ → Type 0) (journal : Journal L) (own : List (List ℕ))
+    → journal.name.skipped < 2 ^ 64 → IsSettled content may_leave journal own → JournalHas content may_leave journal (empties journal.name.skipped ++ own)
+settled-has content may_leave journal own bounded settled = record {
+  own = own;
+  settled = settled;
+  short = empties_short journal.name.skipped own;
+  bounded = bounded;
+}

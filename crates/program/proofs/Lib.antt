@@ -1,3 +1,2 @@
 pub mod Fingerprints
 pub mod Journals
-pub mod JournalServed

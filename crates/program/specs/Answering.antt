@@ -1,12 +1,12 @@
 -- The effects of the program for its arguments on a host (docs/SERVICE.md, "The program").
-use Rattle.std.specs.Prelude.{◌≡◌, ◌⊎◌, false, ℕ, List, None, Result, Ok, Err, codes}
+use Rattle.std.specs.Prelude.{◌≡◌, ◌⊎◌, false, ℕ, List, Result, Ok, Err, codes}
 use Rattle.std.specs.Io.KnownBytes.{Keeps}
 use Rattle.clap.specs.Words.{subcommand_of, takes}
 use Rattle.commandline.specs.Arguments.{app, IsCommand}
 use Rattle.commandline.specs.declared.subcommand.Command.{Command}
 use Rattle.console.specs.Console.{ConsoleState, IsReported}
 use Rattle.console.specs.declared.failure.Failure.TheVariants.{ArgumentsRefused, NoMemory}
-use Rattle.program.specs.Endings.{EndingValue}
+use Rattle.program.specs.Endings.{EndingValue, unserved}
 use Rattle.program.specs.Explaining.{ExplainsEnd, explains_end}
 use Rattle.program.specs.Performing.{HostView, Performs}
 use Rattle.program.specs.declared.arguments.ArgumentsUnread.{ArgumentsUnread}
@@ -19,13 +19,13 @@ pub record IsUntouched (old new : ConsoleState) : Type 0 where
 
 -- there was no memory for the arguments, and nothing was reported
 pub record IsWithoutMemory {P L : Type 0} (ending : EndingValue P L) (old new : ConsoleState) : Type 0 where
-  pub ends : ending ≡ record { outcome = Err NoMemory; served = None }
+  pub ends : ending ≡ unserved (Err NoMemory)
   pub untouched : IsUntouched old new
   pub errors : new.errors ≡ old.errors
 
 -- the arguments were refused, and the command line doesn't take them; a message on that was reported
 pub record IsRefused {P L : Type 0} (arguments : List (List ℕ)) (ending : EndingValue P L) (old new : ConsoleState) : Type 0 where
-  pub ends : ending ≡ record { outcome = Err ArgumentsRefused; served = None }
+  pub ends : ending ≡ unserved (Err ArgumentsRefused)
   pub refused : takes app arguments ≡ false
   pub untouched : IsUntouched old new
   pub text : List ℕ
@@ -43,7 +43,7 @@ pub record IsPerformed {P L : Type 0} (host : HostView P L) (arguments : List (L
 
 -- an argument isn't text, which was reported
 pub record IsNoText {P L : Type 0} (ending : EndingValue P L) (old new : ConsoleState) : Type 0 where
-  pub ends : ending ≡ record { outcome = Err ArgumentsRefused; served = None }
+  pub ends : ending ≡ unserved (Err ArgumentsRefused)
   pub untouched : IsUntouched old new
   pub reported : IsReported old.errors new.errors (codes "error: an argument is not UTF-8\n")
 

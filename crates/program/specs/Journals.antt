@@ -1,15 +1,21 @@
 -- The journal of a map that is served (docs/SERVICE.md, "Journal").
-use Rattle.std.specs.Prelude.{◌≡◌, ◌⊎◌, ◌&&◌, ◌==◌, ◌+◌, ℕ, Bool, not, MatchBool, List, [], ◌++◌, length, Option, None, Some, Err, codes}
+use Rattle.std.specs.Prelude.{◌≡◌, ◌⊎◌, ◌&&◌, ◌==◌, ◌<◌, ◌+◌, ◌*◌, ◌^◌, if◌then◌else◌, ℕ, Bool, not, MatchBool, List, [], ◌++◌, length, Option, None, Some, Err, codes}
 use Rattle.std.specs.List.{flat_map}
 use Rattle.std.specs.Fmt.{decimal}
 use Rattle.sha2.specs.Sha256.{sha256}
 use Rattle.batches.specs.Batch.{State, accepted}
 use Rattle.sharing.specs.Sharing.{after}
 use Rattle.journal.specs.Fingerprint.{sized, content_message}
+use Rattle.journal.specs.Name.{name_bytes}
+use Rattle.journal.specs.Record.{header, name_of}
 use Rattle.journal.specs.Reading.{StandsFor}
 use Rattle.journal.specs.declared.header.HeaderFault.TheVariants as header_fault
-use Rattle.journalfile.specs.Recovery.{IsFaultOf}
+use Rattle.compaction.specs.Compacted.{skipping}
+use Rattle.journalfile.specs.Keeping.{JournalHas}
+use Rattle.journalfile.specs.Recovery.{IsFaultOf, IsNameFault}
 use Rattle.journalfile.specs.Settled.{IsSettled}
+use Rattle.journalfile.specs.declared.checkpoint.Checkpoint.{Checkpoint}
+use Rattle.journalfile.specs.declared.checkpoint.CompactedJournal.{CompactedJournal}
 use Rattle.journalfile.specs.declared.log.Log.{Ghosts as Log}
 use Rattle.journalfile.specs.declared.recovery.RecoverFault.{RecoverFault}
 use Rattle.journalfile.specs.declared.recovery.RecoverFault.TheVariants as recover_fault
@@ -39,6 +45,10 @@ journal_view journal log h = record { gives = journal h; reliable = log.reliable
 abbrev pub KeepsAll : {L : Type 0} → JournalView L → Option (Journal L) → List (List ℕ) → Type 0
 KeepsAll view None batches = Unit {0}
 KeepsAll view (Some journal) batches = view.reliable → IsSettled view.content view.may_leave journal batches
+
+-- a journal that is compacted has these batches, or fewer that lead to the same state, where its log is reliable
+abbrev pub KeepsState : {L : Type 0} → JournalView L → CompactedJournal L → List (List ℕ) → Type 0
+KeepsState view compacted batches = view.reliable → JournalHas view.content view.may_leave compacted.journal batches
 
 -- the part of a digest for a file that a mapfile uses: its name and its bytes
 abbrev pub given_message : FileBytes → List ℕ
@@ -104,24 +114,40 @@ abbrev pub is_unopened : JournalFault → Type 0
 is_unopened (fault.Log cause) = Unit {0}
 is_unopened other = ⊥
 
+-- when a journal is compacted as it is served: from this many megabytes on
+abbrev pub checkpoint_of : ℕ → Checkpoint
+checkpoint_of megabytes = record { least = megabytes * 1000000; due = megabytes * 1000000 }
+
 module _ {L : Type 0} (view : JournalView L) (path fingerprint : List ℕ) (first : State) where
-  -- a journal was opened on a log of the host: the machine is in the state after some batches, and their number is the journal's count. Where the log
-  -- is reliable, its bytes stood for these batches, and it keeps them; so many bytes of a torn tail were cut off
+  -- a journal was opened on a log of the host: the machine is in the state after its batches, and those that were left out of it are counted there. Where the log is reliable, its bytes stood for these batches, and it keeps them; so many bytes of a torn
+  -- tail were cut off
   pub record IsOpened (last : State) (journal : Journal L) (cut : ℕ) : Type 0 where
     pub log : L
     pub gives : view.gives path log
-    pub of_map : journal.fingerprint ≡ fingerprint
+    pub of_map : journal.name.fingerprint ≡ fingerprint
+    pub bounded : journal.name.skipped < 2 ^ 64
     pub batches : List (List ℕ)
-    pub after : after accepted first batches ≡ Some last
-    pub stood : view.reliable → StandsFor fingerprint (view.content log) batches
+    pub after : after accepted (skipping journal.name.skipped first) batches ≡ Some last
+    pub stood : view.reliable → StandsFor (name_bytes journal.name) (view.content log) batches
     pub settled : view.reliable → IsSettled view.content view.may_leave journal batches
     pub shorter : view.reliable → length (view.content log) ≡ length (view.content journal.log) + cut
+
+  -- the header of a log names a journal of the map, which isn't opened
+  pub record IsOpenFault (old new : L) (cause : RecoverFault (Unit {0})) : Type 0 where
+    pub skipped : ℕ
+    pub rest : List ℕ
+    pub named : view.content old ≡ header (name_of fingerprint skipped) ++ rest
+    pub fault : IsFaultOf (name_of fingerprint skipped) view.content old new (skipping skipped first) cause
+
+  -- the bytes of a log have a fault: their header isn't that of a journal of the map, or the journal that it names isn't opened
+  abbrev pub IsFaulty : L → L → RecoverFault (Unit {0}) → Type 0
+  IsFaulty old new cause = IsNameFault fingerprint view.content old new cause ⊎ IsOpenFault old new cause
 
   -- why none was opened: the host gave no log, or the bytes of the log have a fault
   abbrev pub IsUnopened : JournalFault → Type 0
   IsUnopened why =
       is_unopened why
-      ⊎ ((log new : L) × view.gives path log × (cause : RecoverFault (Unit {0})) × (why ≡ fault_of cause) × (view.reliable → IsFaultOf fingerprint view.content log new first cause))
+      ⊎ ((log new : L) × view.gives path log × (cause : RecoverFault (Unit {0})) × (why ≡ fault_of cause) × (view.reliable → IsFaulty log new cause))
 
 -- the line on a torn tail that was cut off, with the path of the journal and the length of the tail
 abbrev pub cut_line : List ℕ → ℕ → List ℕ

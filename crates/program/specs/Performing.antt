@@ -1,5 +1,5 @@
 -- The effects of the program for a command on a host (docs/SERVICE.md, "The program").
-use Rattle.std.specs.Prelude.{◌≡◌, ◌⊎◌, ◌||◌, ◌++◌, ℕ, Bool, List, [], Option, None, Some, IsSome, option_map, Err}
+use Rattle.std.specs.Prelude.{◌≡◌, ◌⊎◌, ◌||◌, ◌==◌, ◌++◌, ℕ, Bool, MatchBool, List, [], Option, None, Some, IsSome, option_map, Err}
 use Rattle.std.specs.Io.KnownBytes.{Keeps}
 use Rattle.commandline.specs.declared.subcommand.Command.{Command}
 use Rattle.commandline.specs.declared.subcommand.Service.{Service}
@@ -15,14 +15,16 @@ use Rattle.mapparse.specs.declared.files.FileBytes.{FileBytes}
 use Rattle.journalfile.specs.declared.log.Log.{Ghosts as Log}
 use Rattle.program.specs.declared.host.Files.{Ghosts as Files}
 use Rattle.network.specs.declared.port.Port.{Ghosts as Port}
-use Rattle.program.specs.Journals.{JournalView, journal_view, KeepsAll, IsOpened, IsUnopened, ReportsCut, ReportsEnd, failure_of, journal_fault, map_fingerprint}
+use Rattle.program.specs.Journals.{JournalView, journal_view, KeepsAll, KeepsState, checkpoint_of, IsOpened, IsUnopened, ReportsCut, ReportsEnd, failure_of, journal_fault, map_fingerprint}
 use Rattle.program.specs.declared.keeping.JournalFault.{JournalFault}
 use Rattle.network.specs.Announcing.{HasAnnounced, IsUnserved}
 use Rattle.subcommands.specs.Folder.{Giving, IsParent}
 use Rattle.subcommands.specs.Mapfiles.{HasReadMapfile, GivesNoMap, ReportsWarnings, ChecksTo, RunsTo}
 use Rattle.subcommands.specs.Session.{PlaysTo, opened}
 use Rattle.subcommands.specs.declared.unread.UnreadCause.{UnreadCause}
-use Rattle.program.specs.Endings.{EndingValue}
+use Rattle.program.specs.Endings.{EndingValue, unserved, ended, ended_compacted}
+use Rattle.service.specs.Serving.{ServedValue}
+use Rattle.journalfile.specs.declared.checkpoint.CompactedJournal.{CompactedJournal}
 use Rattle.program.specs.Hosts.{gives_in}
 
 -- the known properties of a host: the bytes of the file of a path, which ports it gives for a number, the addresses of ports, and journals
@@ -36,29 +38,51 @@ pub record HostView (P L : Type 0) : Type 1 where
 abbrev pub host_view : {H F P L C G : Type 0} → Files H F → (H → ℕ → P → Type 0) → (H → List ℕ → L → Type 0) → Port P C → Log L G → H → HostView P L
 host_view files listens journal port log h = record { file = files.file h; listens = listens h; address = port.address; journal = journal_view journal log h }
 
--- a machine was served as it begins, at the two ports that were listened on, and this keeper kept its batches; the program ended as the service did.
--- The addresses of the ports were written once, that of clients first. The machine accepts all batches that were accepted, published or held, one after
--- the other. Unless it ended because the keeper failed, the keeper at the end has the batches of that keeper, and then those, in order
-pub record IsServed {P L : Type 0} (host : HostView P L) (machine : State) (keeper : Option (Journal L)) (service : Service) (ending : EndingValue P L) (old new : WriterState) : Type 0 where
-  pub clients : P
-  pub administration : P
-  pub last : Option (Journal L)
-  pub accepted : List (List ℕ)
-  pub listens : host.listens service.port clients
-  pub listens_too : host.listens service.admin_port administration
-  pub served : ending.served ≡ Some (record { machine = machine; keeper = keeper; clients = clients; administration = administration; service = service; outcome = ending.outcome; last = last; accepted = accepted })
-  pub took : IsSome (after accepted_by machine accepted)
-  pub kept : (ending.outcome ≡ Err JournalFailed → ⊥) → (batches : List (List ℕ)) → KeepsAll host.journal keeper batches → KeepsAll host.journal last (batches ++ accepted)
-  pub announced : HasAnnounced (host.address clients) (host.address administration) ending.outcome old new
+-- a machine that is to be served as it begins, the keeper of its batches, and the options
+pub record Begun (K : Type 0) : Type 0 where
+  pub machine : State
+  pub keeper : K
+  pub service : Service
+
+-- a machine was served as it begins, at the two ports that were listened on. The addresses of the ports were written once, that of clients first. The
+-- machine accepts all batches that were accepted, published or held, one after the other. Unless it ended because the keeper failed, the keeper at the
+-- end keeps the batches of the one at the beginning, and then those, in order
+pub record IsServed {P L K : Type 0} (host : HostView P L) (keeps : K → List (List ℕ) → Type 0) (begun : Begun K) (served : ServedValue P K) (old new : WriterState) : Type 0 where
+  pub began : served ≡ record served { machine = begun.machine; keeper = begun.keeper; service = begun.service }
+  pub listens : host.listens begun.service.port served.clients
+  pub listens_too : host.listens begun.service.admin_port served.administration
+  pub took : IsSome (after accepted_by begun.machine served.accepted)
+  pub kept : (served.outcome ≡ Err JournalFailed → ⊥) → (batches : List (List ℕ)) → keeps begun.keeper batches → keeps served.last (batches ++ served.accepted)
+  pub announced : HasAnnounced (host.address served.clients) (host.address served.administration) served.outcome old new
+
+-- a kind of keepers: the batches that one keeps, and how a program ends that served with one
+pub record Keeping (P L K : Type 0) : Type 1 where
+  pub keeps : K → List (List ℕ) → Type 0
+  pub ended : ServedValue P K → EndingValue P L
+
+-- a journal, or none
+abbrev pub by_journal : {P L : Type 0} → HostView P L → Keeping P L (Option (Journal L))
+by_journal host = record { keeps = KeepsAll host.journal; ended = ended }
+
+-- a journal that is compacted
+abbrev pub by_compacted : {P L : Type 0} → HostView P L → Keeping P L (CompactedJournal L)
+by_compacted host = record { keeps = KeepsState host.journal; ended = ended_compacted }
 
 -- nothing was served
 abbrev pub ServesNothing : {P L : Type 0} → EndingValue P L → Type 0
-ServesNothing ending = ending.served ≡ None
+ServesNothing ending = ending ≡ unserved ending.outcome
 
 -- a machine was served; or a port of it couldn't be listened on, or memory was refused before
-abbrev pub ServesMachine : {P L : Type 0} → HostView P L → State → Option (Journal L) → Service → EndingValue P L → WriterState → WriterState → Type 0
-ServesMachine host machine keeper service ending old new =
-    (ServesNothing ending × IsUnserved ending.outcome old new) ⊎ IsServed host machine keeper service ending old new
+abbrev pub ServesMachine : {P L K : Type 0} → HostView P L → (HostView P L → Keeping P L K) → Begun K → EndingValue P L → WriterState → WriterState → Type 0
+ServesMachine {P} {L} {K} host keeping begun ending old new =
+    (ServesNothing ending × IsUnserved ending.outcome old new)
+    ⊎ ((served : ServedValue P K) × (ending ≡ (keeping host).ended served) × IsServed host (keeping host).keeps begun served old new)
+
+-- a machine was served with its journal, which is compacted where the options say so
+abbrev pub ServesJournal : {P L : Type 0} → HostView P L → Begun (Journal L) → EndingValue P L → WriterState → WriterState → Type 0
+ServesJournal host begun ending old new = MatchBool (begun.service.checkpoint == 0)
+    (ServesMachine host by_journal (record { machine = begun.machine; keeper = Some begun.keeper; service = begun.service }) ending old new)
+    (ServesMachine host by_compacted (record { machine = begun.machine; keeper = record { journal = begun.keeper; checkpoint = checkpoint_of begun.service.checkpoint }; service = begun.service }) ending old new)
 
 -- the output before and after, and the errors before and after
 pub record Written : Type 0 where
@@ -67,14 +91,14 @@ pub record Written : Type 0 where
   pub errors : WriterState
   pub later_errors : WriterState
 
--- a map was served in the state after the batches of its journal, which kept all that followed. That a torn tail was cut off is reported, with
--- `--explain` or `--log`; where the journal failed, that was reported
+-- a map was served in the state after the batches of its journal, which kept all that followed, or, where it is compacted, fewer that lead to the same
+-- state. That a torn tail was cut off is reported, with `--explain` or `--log`; where the journal failed, that was reported
 pub record IsJournalServed {P L : Type 0} (host : HostView P L) (explains : Bool) (path fingerprint : List ℕ) (map : MapFields) (service : Service) (ending : EndingValue P L) (written : Written) : Type 0 where
   pub machine : State
   pub journal : Journal L
   pub cut : ℕ
   pub is_opened : IsOpened host.journal path fingerprint (opened map) machine journal cut
-  pub serves : ServesMachine host machine (Some journal) service ending written.output written.later_output
+  pub serves : ServesJournal host (record { machine = machine; keeper = journal; service = service }) ending written.output written.later_output
   pub between : WriterState
   pub told : ReportsCut (explains || service.logs) path cut written.errors between
   pub reported : ReportsEnd path ending.outcome between written.later_errors
@@ -83,14 +107,14 @@ pub record IsJournalServed {P L : Type 0} (host : HostView P L) (explains : Bool
 pub record IsWithoutJournal {P L : Type 0} (host : HostView P L) (path fingerprint : List ℕ) (map : MapFields) (ending : EndingValue P L) (written : Written) : Type 0 where
   pub why : JournalFault
   pub is_unopened : IsUnopened host.journal path fingerprint (opened map) why
-  pub ends : ending ≡ record { outcome = Err (failure_of why); served = None }
+  pub ends : ending ≡ unserved (Err (failure_of why))
   pub output : written.later_output ≡ written.output
   pub reported : IsReported written.errors written.later_errors (journal_fault path why)
 
 -- a map was served: as it begins, or, with the journal of a path, after its batches
 abbrev pub ServesMap : {P L : Type 0} → HostView P L → Bool → Option (List ℕ) → List ℕ → MapFields → Service → EndingValue P L → Written → Type 0
 ServesMap host explains None fingerprint map service ending written =
-    ServesMachine host (opened map) None service ending written.output written.later_output × (written.later_errors ≡ written.errors)
+    ServesMachine host by_journal (record { machine = opened map; keeper = None; service = service }) ending written.output written.later_output × (written.later_errors ≡ written.errors)
 ServesMap host explains (Some path) fingerprint map service ending written =
     IsWithoutJournal host path fingerprint map ending written ⊎ IsJournalServed host explains path fingerprint map service ending written
 

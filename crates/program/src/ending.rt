@@ -1,21 +1,24 @@
-ghost use Rattle.std.specs.Prelude.{◌≡◌, None, Some, Err};
+ghost use Rattle.std.specs.Prelude.{◌≡◌, Err};
 ghost use Rattle.std.specs.Process.{exit_status};
 ghost use Rattle.console.specs.Console.{status_of};
+ghost use Rattle.program.specs.Endings.{ended, ended_compacted, unserved};
 
 use console::Failure;
-use journalfile::Journal;
+use journalfile::{CompactedJournal, Journal};
 use service::Served;
 use std::io::Eprint;
 use std::marker::Model;
 use std::process::{ExitCode, Termination};
 
-/// How the program ended, and what it served on ports P, if anything, with a journal on a log L where batches were kept. Only `Program::answer`,
+/// How the program ended, and what it served on ports P, if anything, with a journal on a log L where batches were kept: one that had them all, or one
+/// that was compacted. Only `Program::answer`,
 /// `Program::perform` and `without_memory` make one, and the exit status is 0 or that of its failure. So a `main` that returns one ends as they
 /// state.
 #[derive(Drop)]
 pub struct Ending<P, L> {
     outcome: Result<(), Failure>,
     served: Option<Served<P, Option<Journal<L>>>>,
+    compacted: Option<Served<P, CompactedJournal<L>>>,
 }
 
 impl<P, L> Model for Ending<P, L> {
@@ -27,33 +30,46 @@ impl<P, L> Model for Ending<P, L> {
 
     ghost coded = { Prim.hlevel (codes, expr.the_row.coded, P.code, L.code) };
 
-    ghost view = { λ ending. record { outcome = ending.outcome; served = ending.served } };
+    ghost view = { λ ending. record { outcome = ending.outcome; served = ending.served; compacted = ending.compacted } };
 }
 
 impl<P, L> Ending<P, L> {
     // The end after this, where nothing was served.
     pub(crate) fn after(done: Result<(), Failure>) -> Self
-        ensures { result ≡ record { outcome = done; served = None } }
+        ensures { result ≡ unserved done }
     {
         Ending {
             outcome: done,
             served: None,
+            compacted: None,
         }
     }
 
     // The end after a service.
     pub(crate) fn of_service(served: Served<P, Option<Journal<L>>>) -> Self
-        ensures { result ≡ record { outcome = served.outcome; served = Some served } }
+        ensures { result ≡ ended served }
     {
         Ending {
             outcome: served.outcome(),
             served: Some(served),
+            compacted: None,
+        }
+    }
+
+    // The end after a service whose journal was compacted.
+    pub(crate) fn of_compacted(served: Served<P, CompactedJournal<L>>) -> Self
+        ensures { result ≡ ended_compacted served }
+    {
+        Ending {
+            outcome: served.outcome(),
+            served: None,
+            compacted: Some(served),
         }
     }
 
     /// The end of a program that has no memory for the buffer of its output.
     pub fn without_memory() -> Self
-        ensures { result ≡ record { outcome = Err Failure.NoMemory; served = None } }
+        ensures { result ≡ unserved (Err Failure.NoMemory) }
     {
         Ending::after(Err(Failure::NoMemory))
     }

@@ -2,7 +2,7 @@ ghost use Rattle.std.specs.Prelude.{◌≡◌, ℕ, List, IfOk, OnOk};
 ghost use Rattle.journalfile.specs.Settled.{GarblesNoRecord};
 
 use console::ListenCause;
-use journalfile::Log;
+use journalfile::{Log, Replaceable};
 use network::Network;
 use std::io::{self, Read};
 use thiserror::Error;
@@ -61,7 +61,7 @@ pub trait Host: Files + Network {
     ghost use Rattle.std.specs.Prelude.{ℕ, List};
 
     /// The log of a journal.
-    type Log: Log + Drop;
+    type Log: Replaceable + Drop;
 
     // A log is one that the host gives for a path.
     ghost journal: { Self → List ℕ → Self.Log → Type 0 };
@@ -77,7 +77,7 @@ pub trait Host: Files + Network {
     /// of them, or doesn't exist. Nothing that has the path is replaced. Digests show which bytes of a reliable log a crash has garbled.
     fn open_log(&self, path: &str, bytes: &[u8]) -> Result<Self::Log, OpenFault>
         ensures given { IfOk result (λ log. journal self.now path.now log) }
-        ensures recognised { OnOk result (Self.Log.reliable → (fingerprint : List ℕ) → GarblesNoRecord Self.Log.garbled fingerprint) };
+        ensures recognised { OnOk result (Self.Log.reliable → (name : List ℕ) → GarblesNoRecord Self.Log.garbled name) };
 
     /// The waker of a wait at a port, if the port knows its address.
     fn waker(&self, port: &Self::Port) -> Option<Self::Waker>;

@@ -3,9 +3,10 @@
 ghost use Rattle.std.specs.Prelude.{[]};
 
 use crate::host::OpenFault;
-use journalfile::Log;
+use journalfile::{Log, Replaceable};
 use std::fs::{self, File, OpenOptions, TryLockError};
 use std::io::{self, ErrorKind, Read, Seek, SeekFrom, Write};
+use std::os::unix::fs::MetadataExt;
 use subcommands::parent_of;
 
 // How many names are tried for a file that is to be a journal.
@@ -30,6 +31,13 @@ fn lock(file: &File) -> Result<(), OpenFault> {
         Err(TryLockError::WouldBlock) => Err(OpenFault::InUse),
         Err(TryLockError::Error(error)) => Err(OpenFault::from(error)),
     }
+}
+
+// Locks a new file, which gets the permissions of another.
+fn lock_like(file: &File, other: &File) -> Result<(), OpenFault> {
+    lock(file)?;
+    file.set_permissions(other.metadata()?.permissions())?;
+    Ok(())
 }
 
 // The file of a path, for reading and appending, where there is one.
@@ -118,12 +126,24 @@ fn make(rt: &HostRuntime, path: &str, bytes: &[u8]) -> Result<File, OpenFault> {
     }
 }
 
+// Whether a path leads to this file.
+fn leads_to(rt: &HostRuntime, path: &str, file: &File) -> io::Result<bool> {
+    let there = fs::metadata(rt, path)?;
+    let own = file.metadata()?;
+    Ok(there.dev() == own.dev() && there.ino() == own.ino())
+}
+
 // The file of a path, locked for this program. Where nothing has the path, it is made with these bytes.
 fn open_or_make(rt: &HostRuntime, path: &str, bytes: &[u8]) -> Result<File, OpenFault> {
     match open(rt, path) {
         Ok(file) => {
             lock(&file)?;
-            Ok(file)
+            // the server that had it may have compacted it since it was opened here, and given its path to another file
+            if leads_to(rt, path, &file)? {
+                Ok(file)
+            } else {
+                Err(OpenFault::InUse)
+            }
         }
         Err(error) if error.kind() == ErrorKind::NotFound => {
             match fs::symlink_metadata(rt, path) {
@@ -173,6 +193,15 @@ impl JournalFile {
             Err(_) => Ok(()),
         }
     }
+
+    // Gives the path of this file to another one, which has a path of its own. An error where another file has this one's path, or none.
+    fn give_path(&self, other: &File, path: &str) -> io::Result<()> {
+        if !leads_to(&self.rt, self.path.as_str(), &self.file)? {
+            return Err(io::Error::from(ErrorKind::NotFound));
+        }
+        other.sync_all()?;
+        fs::rename(&self.rt, path, self.path.as_str())
+    }
 }
 
 impl Log for JournalFile {
@@ -211,5 +240,45 @@ impl Log for JournalFile {
 
     fn sync(&mut self) -> Result<(), io::Error> {
         self.file.sync_data()
+    }
+}
+
+impl Replaceable for JournalFile {
+    // A file under a name that nothing had, which is locked before it has the path. A symbolic link would be replaced in place of the
+    // file that it leads to.
+    fn beside(&mut self) -> Result<Self, io::Error> {
+        if fs::symlink_metadata(&self.rt, self.path.as_str())?.is_symlink() {
+            return Err(io::Error::from(ErrorKind::Unsupported));
+        }
+        let Ok((file, path)) = open_beside(&self.rt, self.path.as_str()) else {
+            return Err(io::Error::from(ErrorKind::Other));
+        };
+        match lock_like(&file, &self.file) {
+            Ok(()) => Ok(JournalFile {
+                rt: self.rt,
+                path,
+                file,
+            }),
+            Err(_) => {
+                let _ = fs::remove_file(&self.rt, path.as_str());
+                Err(io::Error::from(ErrorKind::Other))
+            }
+        }
+    }
+
+    // The bytes and the length of the other file are on the disk before it gets the path, and that it has the path is there before
+    // anything is added to it.
+    fn replace(&mut self, successor: Self) -> Result<(), io::Error> {
+        let JournalFile { path, file, .. } = successor;
+        if let Err(error) = self.give_path(&file, path.as_str()) {
+            let _ = fs::remove_file(&self.rt, path.as_str());
+            return Err(error);
+        }
+        self.file = file;
+        sync_folder(&self.rt, self.path.as_str())
+    }
+
+    fn discard(self) {
+        let _ = fs::remove_file(&self.rt, self.path.as_str());
     }
 }

@@ -1,18 +1,21 @@
 //! The journal of a map that is served.
 
-ghost use Rattle.std.specs.Prelude.{◌≡◌, ◌++◌, ℕ, List, [], map, codes, IfOk, IfErr, MatchOption, OnOk};
+ghost use Rattle.std.specs.Prelude.{◌≡◌, ◌<◌, ◌^◌, ◌++◌, ℕ, List, [], map, codes, IfOk, IfErr, MatchOption, OnOk};
 ghost use Rattle.std.specs.Fmt.{decimal};
+ghost use Rattle.compaction.specs.Compacted.{skipping};
 ghost use Rattle.console.specs.Console.{IsReported};
 ghost use Rattle.journal.specs.Fingerprint.{file_message};
 ghost use Rattle.journalfile.specs.Settled.{GarblesNoRecord};
 ghost use Rattle.subcommands.specs.Mapfiles.{TouchesNeither};
+ghost use Rattle.subcommands.specs.Session.{opened};
 ghost use Rattle.program.specs.Journals.{IsOpened, IsUnopened, ReportsCut, ReportsEnd, cut_line, failure_of, fault_of, fault_message, given_message, is_unopened, journal_fault, journal_view, log_message, map_fingerprint, number_text};
 
 use crate::host::{Files, Host, OpenFault};
 use console::{Failure, Writes, report};
 use itoa::Buffer;
-use journal::{HeaderFault, UsedFile, fingerprint_of, push_header};
-use journalfile::{Journal, Log, RecoverFault, Recovered, recover};
+use journal::{HeaderFault, JournalName, UsedFile, fingerprint_of, push_header};
+use journalfile::{Journal, Log, RecoverFault, Recovered, read_skipped, recover};
+use mapdefs::Map;
 use mapmachine::Machine;
 use mapparse::Files as MapFiles;
 use network::Network;
@@ -187,7 +190,11 @@ pub(crate) fn fingerprint_of_map(alloc: Global, read: &ReadMap) -> Result<[u8; 3
 // A journal without a record. The error is that memory was refused.
 fn header_of(alloc: Global, fingerprint: &[u8; 32]) -> Result<Vec<u8>, AllocError> {
     let mut header = Vec::new(alloc);
-    push_header(&mut header, fingerprint)?;
+    let name = JournalName {
+        fingerprint: *fingerprint,
+        skipped: 0,
+    };
+    push_header(&mut header, &name)?;
     Ok(header)
 }
 
@@ -213,7 +220,7 @@ fn log_of<H: Host>(
     fingerprint: &[u8; 32],
 ) -> Result<H::Log, JournalFault>
     ensures given { IfOk result (λ log. H.journal host.now path.now log) }
-    ensures recognised { OnOk result (H.Log.reliable → (fingerprint : List ℕ) → GarblesNoRecord H.Log.garbled fingerprint) }
+    ensures recognised { OnOk result (H.Log.reliable → (name : List ℕ) → GarblesNoRecord H.Log.garbled name) }
     ensures unopened { IfErr result is_unopened }
 {
     let Ok(header) = header_of(alloc, fingerprint) else {
@@ -237,34 +244,58 @@ pub(crate) struct JournalPlace<'a, H> {
 /// A journal that was opened.
 #[derive(Drop)]
 pub(crate) struct OpenedJournal<L> {
+    /// The machine after its batches.
+    pub machine: Machine,
     /// The journal.
     pub journal: Journal<L>,
     /// How many bytes of a torn tail were cut off.
     pub cut: usize,
 }
 
-/// Opens the journal of a map and brings the map's machine to the state after its batches. Where there is no journal,
-/// one is made.
+// The machine of a map after so many batches that were left out of its journal. The error is that memory was refused.
+fn machine_at(alloc: Global, map: Map, skipped: u64) -> Result<Machine, JournalFault>
+    ensures machine { IfOk result (λ machine. machine ≡ skipping skipped (opened map)) }
+    ensures bounded { skipped < 2 ^ 64 }
+    ensures fault { IfErr result is_unopened }
+{
+    match Machine::open_at(alloc, map, skipped) {
+        Ok(machine) => Ok(machine),
+        Err(_) => Err(JournalFault::Log(OpenFault::NoMemory)),
+    }
+}
+
+/// Opens the journal of a map, with the map's machine in the state after its batches. Where there is no journal, one is made.
 pub(crate) fn open_journal<H: Host>(
     alloc: Global,
     place: JournalPlace<'_, H>,
     fingerprint: [u8; 32],
-    machine: &mut Machine,
+    map: Map,
 ) -> Result<OpenedJournal<H::Log>, JournalFault>
-    ensures opened { IfOk result (λ opened. IsOpened (journal_view H.journal ⟦<H::Log as Log>⟧ place.entry.host.now)
-        place.entry.path.now fingerprint machine.old machine.new opened.journal opened.cut) }
-    ensures recognised { OnOk result (H.Log.reliable → (fingerprint : List ℕ) → GarblesNoRecord H.Log.garbled fingerprint) }
+    ensures opened { IfOk result (λ found. IsOpened (journal_view H.journal ⟦<H::Log as Log>⟧ place.entry.host.now)
+        place.entry.path.now fingerprint (opened map) found.machine found.journal found.cut) }
+    ensures recognised { OnOk result (H.Log.reliable → (name : List ℕ) → GarblesNoRecord H.Log.garbled name) }
     ensures fault { IfErr result (λ fault. IsUnopened
-        (journal_view H.journal ⟦<H::Log as Log>⟧ place.entry.host.now) place.entry.path.now fingerprint machine.old fault) }
+        (journal_view H.journal ⟦<H::Log as Log>⟧ place.entry.host.now) place.entry.path.now fingerprint (opened map) fault) }
 {
     let mut log = log_of(alloc, place.host, place.path, &fingerprint)?;
-    match recover(alloc, &fingerprint, &mut log, machine) {
-        Ok(Recovered { count, cut }) => Ok(OpenedJournal {
+    let skipped = match read_skipped(alloc, &fingerprint, &mut log) {
+        Ok(skipped) => skipped,
+        Err(fault) => return Err(fault_of(fault)),
+    };
+    let mut machine = machine_at(alloc, map, skipped)?;
+    let name = JournalName {
+        fingerprint,
+        skipped,
+    };
+    match recover(alloc, &name, &mut log, &mut machine) {
+        Ok(Recovered { count, length, cut }) => Ok(OpenedJournal {
+            machine,
             journal: Journal {
                 alloc,
                 log,
-                fingerprint,
+                name,
                 count,
+                length: length as u64,
             },
             cut,
         }),

@@ -1,24 +1,25 @@
-ghost use Rattle.std.specs.Prelude.{◌≡◌, ◌||◌, ℕ, List, IfErr, IfOk, IfSome, Some, None, is_some, true, false, vec_len};
+ghost use Rattle.std.specs.Prelude.{◌≡◌, ◌<◌, ◌^◌, ◌||◌, ℕ, List, Err, IfErr, IfOk, OnOk, Some, None, is_some, true, false, vec_len};
 ghost use Rattle.console.specs.Console.{LeavesOutput, is_input_failed};
-ghost use Rattle.program.specs.Journals.{IsOpened, IsUnopened, journal_view, map_fingerprint};
-ghost use Rattle.program.specs.Performing.{ServesMachine, ServesMap, host_view};
+ghost use Rattle.journalfile.specs.Settled.{GarblesNoRecord, IsSettled};
+ghost use Rattle.program.specs.Journals.{IsOpened, IsUnopened, checkpoint_of, journal_view, map_fingerprint};
+ghost use Rattle.program.specs.Performing.{IsServed, ServesJournal, ServesMachine, ServesMap, by_compacted, by_journal, host_view};
 ghost use Rattle.subcommands.specs.Session.{opened};
-ghost use Rattle.network.specs.Announcing.{is_service_failure};
+ghost use Rattle.network.specs.Announcing.{IsUnserved, is_service_failure};
 
 use crate::ending::Ending;
 use crate::host::{Files, Host, ListenFailed, OpenFault};
 use crate::keeping::{
-    JournalFault, JournalPlace, fingerprint_of_map, open_journal, report_cut, report_end,
-    report_journal_fault,
+    JournalFault, JournalPlace, OpenedJournal, fingerprint_of_map, open_journal, report_cut,
+    report_end, report_journal_fault,
 };
 use crate::program::Program;
 use commandline::Service;
 use console::{Console, Failure, Writes};
-use journalfile::{Journal, Keeps, Log};
+use journalfile::{Checkpoint, CompactedJournal, Journal, Keeps, Log};
 use mapdefs::Map;
 use mapmachine::Machine;
 use network::{Network, Port, PortFor, Ports, Runtime, Until};
-use service::{Kept, serve_by_threads};
+use service::{Kept, Served, serve_by_threads};
 use std::alloc::Global;
 use streams::Sink;
 use subcommands::ReadMap;
@@ -41,12 +42,15 @@ fn is_told(explains: bool, service: Service) -> bool
     explains || service.logs
 }
 
-// A map and its journal that were opened.
-#[derive(Drop)]
-struct OpenedMap<L> {
-    kept: Kept<Option<Journal<L>>>,
-    // How many bytes of a torn tail were cut off the journal.
-    cut: usize,
+// When a journal is compacted as it is served: from this many megabytes on.
+fn checkpoint_of(megabytes: u32) -> Checkpoint
+    ensures { result ≡ checkpoint_of megabytes }
+{
+    let bytes = u64::from(megabytes) * 1_000_000;
+    Checkpoint {
+        least: bytes,
+        due: bytes,
+    }
 }
 
 // A port of a host by its number.
@@ -126,8 +130,26 @@ fn listen<H: Host>(
 }
 
 impl<R: Runtime, H: Host> Program<'_, R, H> {
-    // Listens on two ports, and serves a machine there, as it begins, whose batches are kept.
-    fn serve_machine<O: Sink>(
+    // Listens on two ports, and serves a machine there, as it begins, whose batches are kept. The error is that a port can't be listened on, or that
+    // memory was refused.
+    fn serve_machine<K: Keeps + Drop, O: Sink>(
+        &self,
+        kept: Kept<K>,
+        service: Service,
+        output: &mut O,
+    ) -> Result<Served<H::Port, K>, Failure>
+        requires ready { (batches : List (List ℕ)) × K.keeps kept.keeper batches }
+        ensures served { IfOk result (λ served. IsServed (host_view ⟦<H as Files>⟧ H.listens H.journal ⟦<H::Port as Port<H::Connection>>⟧
+            ⟦<H::Log as Log>⟧ self.now.host.now) K.keeps (record { machine = kept.machine; keeper = kept.keeper; service = service }) served
+            (⟦<O as Writes>⟧.state output.old) (⟦<O as Writes>⟧.state output.new)) }
+        ensures unserved { IfErr result (λ failure. IsUnserved (Err failure) (⟦<O as Writes>⟧.state output.old) (⟦<O as Writes>⟧.state output.new)) }
+    {
+        let ports = listen(self.rt.alloc(), self.host, service)?;
+        Ok(serve_by_threads::<R, H, K, O>(&self.rt, kept, ports, output))
+    }
+
+    // The same with a journal that keeps all batches, or with none.
+    fn serve_whole<O: Sink>(
         &self,
         kept: Kept<Option<Journal<H::Log>>>,
         service: Service,
@@ -135,17 +157,67 @@ impl<R: Runtime, H: Host> Program<'_, R, H> {
     ) -> Ending<H::Port, H::Log>
         requires ready { (batches : List (List ℕ)) × ⟦<Option<Journal<H::Log>> as Keeps>⟧.keeps kept.keeper batches }
         ensures serves { ServesMachine (host_view ⟦<H as Files>⟧ H.listens H.journal ⟦<H::Port as Port<H::Connection>>⟧
-            ⟦<H::Log as Log>⟧ self.now.host.now) kept.machine kept.keeper service result
+            ⟦<H::Log as Log>⟧ self.now.host.now) by_journal (record { machine = kept.machine; keeper = kept.keeper; service = service }) result
             (⟦<O as Writes>⟧.state output.old) (⟦<O as Writes>⟧.state output.new) }
         ensures leaves { LeavesOutput result.outcome (⟦<O as Writes>⟧.state output.old) (⟦<O as Writes>⟧.state output.new) }
         ensures reads { is_input_failed result.outcome ≡ false }
     {
-        match listen(self.rt.alloc(), self.host, service) {
-            Ok(ports) => Ending::of_service(serve_by_threads::<R, H, Option<Journal<H::Log>>, O>(
-                &self.rt, kept, ports, output,
-            )),
+        match self.serve_machine(kept, service, output) {
+            Ok(served) => Ending::of_service(served),
             Err(failure) => Ending::after(Err(failure)),
         }
+    }
+
+    // The same with a journal that is compacted.
+    fn serve_compacted<O: Sink>(
+        &self,
+        kept: Kept<CompactedJournal<H::Log>>,
+        service: Service,
+        output: &mut O,
+    ) -> Ending<H::Port, H::Log>
+        requires ready { (batches : List (List ℕ)) × ⟦<CompactedJournal<H::Log> as Keeps>⟧.keeps kept.keeper batches }
+        ensures serves { ServesMachine (host_view ⟦<H as Files>⟧ H.listens H.journal ⟦<H::Port as Port<H::Connection>>⟧
+            ⟦<H::Log as Log>⟧ self.now.host.now) by_compacted (record { machine = kept.machine; keeper = kept.keeper; service = service }) result
+            (⟦<O as Writes>⟧.state output.old) (⟦<O as Writes>⟧.state output.new) }
+        ensures leaves { LeavesOutput result.outcome (⟦<O as Writes>⟧.state output.old) (⟦<O as Writes>⟧.state output.new) }
+        ensures reads { is_input_failed result.outcome ≡ false }
+    {
+        match self.serve_machine(kept, service, output) {
+            Ok(served) => Ending::of_compacted(served),
+            Err(failure) => Ending::after(Err(failure)),
+        }
+    }
+
+    // Serves a machine with its journal, which is compacted where the options say so.
+    fn serve_journal<O: Sink>(
+        &self,
+        kept: Kept<Journal<H::Log>>,
+        service: Service,
+        output: &mut O,
+    ) -> Ending<H::Port, H::Log>
+        requires recognised { H.Log.reliable → (name : List ℕ) → GarblesNoRecord H.Log.garbled name }
+        requires settled { (own : List (List ℕ)) × (H.Log.reliable → IsSettled H.Log.content H.Log.may_leave kept.keeper own) }
+        requires bounded { kept.keeper.name.skipped < 2 ^ 64 }
+        ensures serves { ServesJournal (host_view ⟦<H as Files>⟧ H.listens H.journal ⟦<H::Port as Port<H::Connection>>⟧
+            ⟦<H::Log as Log>⟧ self.now.host.now) (record { machine = kept.machine; keeper = kept.keeper; service = service }) result
+            (⟦<O as Writes>⟧.state output.old) (⟦<O as Writes>⟧.state output.new) }
+        ensures leaves { LeavesOutput result.outcome (⟦<O as Writes>⟧.state output.old) (⟦<O as Writes>⟧.state output.new) }
+        ensures reads { is_input_failed result.outcome ≡ false }
+    {
+        let Kept {
+            machine,
+            keeper: journal,
+        } = kept;
+        if service.checkpoint == 0 {
+            let keeper = Some(journal);
+            return self.serve_whole(Kept { machine, keeper }, service, output);
+        }
+        let checkpoint = checkpoint_of(service.checkpoint);
+        let keeper = CompactedJournal {
+            journal,
+            checkpoint,
+        };
+        self.serve_compacted(Kept { machine, keeper }, service, output)
     }
 
     /// Listens on two ports, and serves a map there, as it begins. Its batches end with the program.
@@ -155,8 +227,8 @@ impl<R: Runtime, H: Host> Program<'_, R, H> {
         service: Service,
         output: &mut O,
     ) -> Ending<H::Port, H::Log>
-        ensures serves { ServesMachine (host_view ⟦<H as Files>⟧ H.listens H.journal ⟦<H::Port as Port<H::Connection>>⟧ ⟦<H::Log as Log>⟧ self.now.host.now)
-            (opened map) None service result
+        ensures serves { ServesMachine (host_view ⟦<H as Files>⟧ H.listens H.journal ⟦<H::Port as Port<H::Connection>>⟧
+            ⟦<H::Log as Log>⟧ self.now.host.now) by_journal (record { machine = opened map; keeper = None; service = service }) result
             (⟦<O as Writes>⟧.state output.old) (⟦<O as Writes>⟧.state output.new) }
         ensures leaves { LeavesOutput result.outcome (⟦<O as Writes>⟧.state output.old) (⟦<O as Writes>⟧.state output.new) }
         ensures reads { is_input_failed result.outcome ≡ false }
@@ -168,16 +240,14 @@ impl<R: Runtime, H: Host> Program<'_, R, H> {
             machine,
             keeper: None,
         };
-        self.serve_machine(kept, service, output)
+        self.serve_whole(kept, service, output)
     }
 
     // The machine of a map that was read, after the batches of its journal, and that journal.
-    fn open_kept(&self, read: ReadMap, path: &str) -> Result<OpenedMap<H::Log>, JournalFault>
-        ensures opened { IfOk result (λ map. IfSome map.kept.keeper
-            (λ journal. IsOpened (journal_view H.journal ⟦<H::Log as Log>⟧ self.now.host.now) path.now
-            (map_fingerprint read.source.items read.files) (opened read.map) map.kept.machine journal map.cut)) }
-        ensures some { IfOk result (λ map. is_some map.kept.keeper ≡ true) }
-        ensures ready { IfOk result (λ map. (batches : List (List ℕ)) × ⟦<Option<Journal<H::Log>> as Keeps>⟧.keeps map.kept.keeper batches) }
+    fn open_kept(&self, read: ReadMap, path: &str) -> Result<OpenedJournal<H::Log>, JournalFault>
+        ensures opened { IfOk result (λ found. IsOpened (journal_view H.journal ⟦<H::Log as Log>⟧ self.now.host.now) path.now
+            (map_fingerprint read.source.items read.files) (opened read.map) found.machine found.journal found.cut) }
+        ensures recognised { OnOk result (H.Log.reliable → (name : List ℕ) → GarblesNoRecord H.Log.garbled name) }
         ensures fault { IfErr result (IsUnopened (journal_view H.journal ⟦<H::Log as Log>⟧ self.now.host.now) path.now
             (map_fingerprint read.source.items read.files) (opened read.map)) }
     {
@@ -186,21 +256,11 @@ impl<R: Runtime, H: Host> Program<'_, R, H> {
             return Err(JournalFault::Log(OpenFault::NoMemory));
         };
         let ReadMap { map, .. } = read;
-        let Ok(mut machine) = Machine::open(alloc, map) else {
-            return Err(JournalFault::Log(OpenFault::NoMemory));
-        };
         let place = JournalPlace {
             host: self.host,
             path,
         };
-        let opened = open_journal(alloc, place, fingerprint, &mut machine)?;
-        Ok(OpenedMap {
-            kept: Kept {
-                machine,
-                keeper: Some(opened.journal),
-            },
-            cut: opened.cut,
-        })
+        open_journal(alloc, place, fingerprint, map)
     }
 
     /// Serves a map that was read in the state after the batches of its journal, which keeps those that follow. It listens on two ports for
@@ -212,8 +272,9 @@ impl<R: Runtime, H: Host> Program<'_, R, H> {
         journaled: JournaledService<'_>,
         console: &mut Console<I, O, E>,
     ) -> Ending<H::Port, H::Log>
-        ensures serves { ServesMap (host_view ⟦<H as Files>⟧ H.listens H.journal ⟦<H::Port as Port<H::Connection>>⟧ ⟦<H::Log as Log>⟧ self.now.host.now)
-            journaled.entry.explains (Some journaled.entry.path.now) (map_fingerprint read.source.items read.files) read.map journaled.entry.service result
+        ensures serves { ServesMap (host_view ⟦<H as Files>⟧ H.listens H.journal ⟦<H::Port as Port<H::Connection>>⟧
+            ⟦<H::Log as Log>⟧ self.now.host.now) journaled.entry.explains (Some journaled.entry.path.now)
+            (map_fingerprint read.source.items read.files) read.map journaled.entry.service result
             (record {
               output = ⟦<O as Writes>⟧.state console.old.output;
               later_output = ⟦<O as Writes>⟧.state console.new.output;
@@ -236,10 +297,15 @@ impl<R: Runtime, H: Host> Program<'_, R, H> {
                 return Ending::after(Err(fault.failure()));
             }
         };
-        let OpenedMap { kept, cut } = opened;
+        let OpenedJournal {
+            machine,
+            journal: keeper,
+            cut,
+        } = opened;
         let tells = is_told(explains, service);
         report_cut(&mut console.errors, path, tells, cut);
-        let ending = self.serve_machine(kept, service, &mut console.output);
+        let kept = Kept { machine, keeper };
+        let ending = self.serve_journal(kept, service, &mut console.output);
         report_end(&mut console.errors, path, ending.outcome());
         ending
     }

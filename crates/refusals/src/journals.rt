@@ -1,11 +1,15 @@
 use crate::marks::{Call, begin, end, play_on};
 use crate::reading::plain_machine;
-use journal::{push_header, push_record};
-use journalfile::{Journal, Log, PutFault, RecoverFault, Recovered, recover};
+use compaction::LastChanges;
+use journal::{JournalName, push_header, push_record};
+use journalfile::{Journal, Log, PutFault, RecoverFault, Recovered, Replaceable, recover};
 use std::alloc::{AllocError, Global};
 use std::io::{self, Read};
 
-const FINGERPRINT: [u8; 32] = [7; 32];
+const JOURNAL: JournalName = JournalName {
+    fingerprint: [7; 32],
+    skipped: 0,
+};
 
 const BATCH: &[u8] = b"OFF a\n";
 
@@ -16,6 +20,7 @@ struct Full;
 /// Bytes in memory with room for some more, so that adding to them takes no memory. Nothing is proved of it.
 #[derive(Drop)]
 struct Room {
+    alloc: Global,
     bytes: Vec<u8>,
 }
 
@@ -59,12 +64,31 @@ impl Log for Room {
     }
 }
 
+impl Replaceable for Room {
+    fn beside(&mut self) -> Result<Self, Full> {
+        match Vec::with_capacity(self.alloc, 4_096) {
+            Ok(bytes) => Ok(Room {
+                alloc: self.alloc,
+                bytes,
+            }),
+            Err(_) => Err(Full),
+        }
+    }
+
+    fn replace(&mut self, successor: Self) -> Result<(), Full> {
+        self.bytes = successor.bytes;
+        Ok(())
+    }
+
+    fn discard(self) {}
+}
+
 // A journal of so many batches, and a broken record after them.
 fn journal_bytes(alloc: Global, count: u64) -> Result<Vec<u8>, AllocError> {
     let mut bytes = Vec::with_capacity(alloc, 4_096)?;
-    push_header(&mut bytes, &FINGERPRINT)?;
+    push_header(&mut bytes, &JOURNAL)?;
     for number in 0..count {
-        push_record(&mut bytes, &FINGERPRINT, number.saturating_add(1), BATCH)?;
+        push_record(&mut bytes, &JOURNAL, number.saturating_add(1), BATCH)?;
     }
     bytes.push(192)?;
     Ok(bytes)
@@ -75,13 +99,14 @@ pub fn recover_row(rt: &HostRuntime) -> io::Result<Option<String>> {
     let alloc = rt.alloc();
     let mut machine = plain_machine(alloc)?;
     let mut log = Room {
+        alloc,
         bytes: journal_bytes(alloc, 2)?,
     };
     begin(rt)?;
-    let answer = recover(alloc, &FINGERPRINT, &mut log, &mut machine);
+    let answer = recover(alloc, &JOURNAL, &mut log, &mut machine);
     end(rt)?;
     match answer {
-        Ok(Recovered { count, cut }) => {
+        Ok(Recovered { count, cut, .. }) => {
             Ok(Some(format!(in alloc; "{count} batches, {cut} bytes cut")?))
         }
         Err(RecoverFault::NoMemory) => Ok(None),
@@ -120,17 +145,98 @@ impl Call for Putting {
 pub fn put_row(rt: &HostRuntime) -> io::Result<()> {
     let alloc = rt.alloc();
     let log = Room {
+        alloc,
         bytes: journal_bytes(alloc, 0)?,
     };
     let journal = Journal {
         alloc,
         log,
-        fingerprint: FINGERPRINT,
+        name: JOURNAL,
         count: 0,
+        length: 0,
     };
     let mut batches = Vec::new(alloc);
     for batch in [BATCH, b"".as_slice()] {
         batches.push(Vec::from_slice(alloc, batch)?)?;
     }
     play_on(rt, &mut Putting { journal, batches })
+}
+
+// What is left of a batch: how many commands it has, and the bytes of those that no later one of it undoes.
+fn text_of_left(alloc: Global, commands: u64, left: &[u8]) -> Result<String, AllocError> {
+    let text = str::from_utf8(left)
+        .unwrap_or("?")
+        .replace(alloc, '\n', ";")?;
+    format!(in alloc; "{commands} commands, left {text}")
+}
+
+/// Notes a batch of three commands, of which the first is undone.
+pub fn note_row(rt: &HostRuntime) -> io::Result<Option<String>> {
+    let alloc = rt.alloc();
+    let batch = b"OFF a\nCLEAR p\nON a\n";
+    let mut changes = LastChanges::new(alloc);
+    begin(rt)?;
+    let answer = changes.note(batch);
+    end(rt)?;
+    if answer.is_err() {
+        return Ok(None);
+    }
+    let mut left = Vec::new(alloc);
+    let commands = changes.add_left(0, batch, &mut left)?;
+    Ok(Some(text_of_left(alloc, commands, &left)?))
+}
+
+/// Adds what is left of a batch of three commands, of which the second is undone.
+pub fn left_row(rt: &HostRuntime) -> io::Result<Option<String>> {
+    let alloc = rt.alloc();
+    let batch = b"CLEAR p\nON a\nOFF a\n";
+    let mut changes = LastChanges::new(alloc);
+    changes.note(batch)?;
+    let mut left = Vec::new(alloc);
+    begin(rt)?;
+    let answer = changes.add_left(0, batch, &mut left);
+    end(rt)?;
+    match answer {
+        Ok(commands) => Ok(Some(text_of_left(alloc, commands, &left)?)),
+        Err(_) => Ok(None),
+    }
+}
+
+#[derive(Drop)]
+struct Compacting {
+    journal: Journal<Room>,
+}
+
+impl Call for Compacting {
+    fn state(&self, rt: &HostRuntime) -> io::Result<String> {
+        let (count, skipped) = (self.journal.count, self.journal.name.skipped);
+        let bytes = self.journal.log.bytes.len();
+        Ok(format!(in rt.alloc(); "{count} batches, {skipped} left out, {bytes} bytes")?)
+    }
+
+    fn call(&mut self, rt: &HostRuntime) -> io::Result<Option<String>> {
+        begin(rt)?;
+        let answer = self.journal.compact();
+        end(rt)?;
+        match answer {
+            Ok(true) => Ok(Some(String::from_str(rt.alloc(), "compacted")?)),
+            Ok(false) => Ok(None),
+            Err(_) => Ok(Some(String::from_str(rt.alloc(), "failed")?)),
+        }
+    }
+}
+
+/// Compacts a journal of three batches, each of which undoes the one before it.
+pub fn compact_row(rt: &HostRuntime) -> io::Result<()> {
+    let alloc = rt.alloc();
+    let mut bytes = journal_bytes(alloc, 3)?;
+    bytes.pop();
+    let journal = Journal {
+        alloc,
+        length: bytes.len() as u64,
+        log: Room { alloc, bytes },
+        name: JOURNAL,
+        count: 3,
+    };
+    play_on(rt, &mut Compacting { journal })
 }

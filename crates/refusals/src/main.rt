@@ -13,7 +13,7 @@ mod reading;
 mod sharing_rows;
 
 use crate::changing::{append_row, batch_row, exchange_row, run_row, script_row};
-use crate::journals::{put_row, recover_row};
+use crate::journals::{compact_row, left_row, note_row, put_row, recover_row};
 use crate::marks::print_answer;
 use crate::reading::{
     document_row, expression_row, font_row, head_row, open_row, parse_row, pixmap_row, query_row,
@@ -48,6 +48,8 @@ fn answer(rt: &HostRuntime, name: &str) -> io::Result<Option<String>> {
         "open" => open_row(rt),
         "head" => head_row(rt),
         "recover" => recover_row(rt),
+        "note" => note_row(rt),
+        "left" => left_row(rt),
         "picture" => reply_row(rt, PICTURE),
         "png" => reply_row(rt, PNG),
         "hits" => reply_row(rt, HITS),
@@ -65,6 +67,7 @@ fn play<R: Wait>(waits: &R, rt: &HostRuntime, name: &str) -> io::Result<()> {
         "script" => script_row(rt),
         "exchange" => exchange_row(rt),
         "put" => put_row(rt),
+        "compact" => compact_row(rt),
         "share" => share_row(waits, rt),
         "submit" => submit_row(waits, rt),
         "accept" => accept_row(waits, rt),

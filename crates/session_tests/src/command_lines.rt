@@ -18,14 +18,23 @@ fn flags_of(service: Service) -> &'static str {
     }
 }
 
+// From where on a journal is compacted, if it is.
+fn compacted_at(alloc: Global, megabytes: u32) -> Result<String, AllocError> {
+    match megabytes {
+        0 => Ok(String::new(alloc)),
+        _ => format!(in alloc; ", compacted at {megabytes} MB"),
+    }
+}
+
 // The options of a service beside its port and its connections.
 fn rest_of(alloc: Global, service: Service) -> Result<String, AllocError> {
     format!(in alloc;
-        ", idle {}, timeout {}, batches on {} and {} workers{}",
+        ", idle {}, timeout {}, batches on {} and {} workers{}{}",
         service.idle,
         service.timeout,
         service.admin_port,
         service.workers,
+        compacted_at(alloc, service.checkpoint)?,
         flags_of(service)
     )
 }
@@ -111,6 +120,8 @@ serve m.map --log|serve m.map on 8080 for 0, idle 60000, timeout 30, batches on 
 serve m.map --log --until-input-ends|serve m.map on 8080 for 0, idle 60000, timeout 30, batches on 8081 and 4 workers until its input ends with a log
 serve m.map --journal a.journal|serve m.map on 8080 for 0, idle 60000, timeout 30, batches on 8081 and 4 workers kept in a.journal
 serve --journal b.journal --explain m.map|serve m.map on 8080 for 0, idle 60000, timeout 30, batches on 8081 and 4 workers kept in b.journal explained
+serve m.map --checkpoint 64 --journal a.journal|serve m.map on 8080 for 0, idle 60000, timeout 30, batches on 8081 and 4 workers, compacted at 64 MB kept in a.journal
+serve m.map --checkpoint 1000001|error: invalid value '1000001' for '--checkpoint <MEGABYTES>': 1000001 is not in 0..=1000000~~For more information, try '--help'.~
 serve m.map --journal|error: a value is required for '--journal <JOURNAL>' but none was supplied~~For more information, try '--help'.~
 serve m.map --workers 0|error: invalid value '0' for '--workers <COUNT>': 0 is not in 1..=32~~For more information, try '--help'.~
 serve m.map --workers 33|error: invalid value '33' for '--workers <COUNT>': 33 is not in 1..=32~~For more information, try '--help'.~
@@ -124,7 +135,7 @@ CHECK a|error: unrecognized subcommand 'CHECK'~~Usage: mapservd [COMMAND]~~For m
 --port 80|error: unexpected argument '--port' found~~Usage: mapservd [COMMAND]~~For more information, try '--help'.~
 check --help|Check a mapfile, and count its layers and features~~Usage: mapservd check [OPTIONS] <FILE>~~Arguments:~  <FILE>  The mapfile~~Options:~      --explain  Explain the mapfile's first fault, or print warnings~  -h, --help     Print help~
 run --help|Run a script against a map~~Usage: mapservd run [OPTIONS] <FILE> <SCRIPT>~~Arguments:~  <FILE>    The mapfile~  <SCRIPT>  The script: queries and batches~~Options:~      --explain  Explain the mapfile's first fault, or print warnings~  -h, --help     Print help~
-serve --help|Serve the map over HTTP on 127.0.0.1~~Usage: mapservd serve [OPTIONS] <FILE>~~Arguments:~  <FILE>  The mapfile~~Options:~      --explain              Explain the mapfile's first fault, or print warnings~      --port <PORT>          Port for clients, 0 for a free one [default: 8080]~      --connections <COUNT>  Stop after this many connections at each port, 0 for never [default: 0]~      --idle <MILLISECONDS>  How long a connection may be silent between requests [default: 60000]~      --timeout <SECONDS>    How long a request's head, or an answer that isn't read, may take [default: 30]~      --admin-port <PORT>    Port for batches, 0 for a free one [default: 8081]~      --workers <COUNT>      Threads that answer clients [default: 4]~      --until-input-ends     End when standard input does, once those being answered have their answers~      --log                  Log each answer and each batch in a line of standard error~      --journal <JOURNAL>    Journal that keeps batches, so that they outlive the program; made where it isn't there~  -h, --help                 Print help~
+serve --help|Serve the map over HTTP on 127.0.0.1~~Usage: mapservd serve [OPTIONS] <FILE>~~Arguments:~  <FILE>  The mapfile~~Options:~      --explain                 Explain the mapfile's first fault, or print warnings~      --port <PORT>             Port for clients, 0 for a free one [default: 8080]~      --connections <COUNT>     Stop after this many connections at each port, 0 for never [default: 0]~      --idle <MILLISECONDS>     How long a connection may be silent between requests [default: 60000]~      --timeout <SECONDS>       How long a request's head, or an answer that isn't read, may take [default: 30]~      --admin-port <PORT>       Port for batches, 0 for a free one [default: 8081]~      --workers <COUNT>         Threads that answer clients [default: 4]~      --checkpoint <MEGABYTES>  Compact the journal where it has grown to this size, 0 for never [default: 0]~      --until-input-ends        End when standard input does, once those being answered have their answers~      --log                     Log each answer and each batch in a line of standard error~      --journal <JOURNAL>       Journal that keeps batches, so that they outlive the program; made where it isn't there~  -h, --help                    Print help~
 --help|Serve maps by WMS. Without a command, play a session from standard input~~Usage: mapservd [COMMAND]~~Commands:~  check  Check a mapfile, and count its layers and features~  run    Run a script against a map~  serve  Serve the map over HTTP on 127.0.0.1~  help   Print this message or the help of the given subcommand(s)~~Options:~  -h, --help     Print help~  -V, --version  Print version~
 --version|mapservd 0.1.0, rules of 2026-11-27, proved by logic dac8208d650f15bf~
 -V|mapservd 0.1.0, rules of 2026-11-27, proved by logic dac8208d650f15bf~
@@ -140,7 +151,7 @@ fn is_command(alloc: Global, row: &str) -> Result<bool, AllocError> {
 
 #[test]
 fn arguments_mean_their_commands(rt: HostRuntime) -> Result<(), TableFault> {
-    check_all(rt.alloc(), ARGUMENTS, 55, is_command)
+    check_all(rt.alloc(), ARGUMENTS, 57, is_command)
 }
 
 // The messages on arguments that were refused with this text, and on those for which there was no memory.

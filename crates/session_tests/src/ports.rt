@@ -111,6 +111,7 @@ pub fn service(ports: (u16, u16), workers: u16, connections: u32) -> Service {
         timeout: 30,
         admin_port: ports.1,
         workers,
+        checkpoint: 0,
         until_input_ends: false,
         logs: false,
     }

@@ -3,7 +3,7 @@
 ghost use Rattle.std.specs.Prelude.{[]};
 
 use crate::shelf::Counts;
-use journalfile::Log;
+use journalfile::{Log, Replaceable};
 use program::OpenFault;
 use std::alloc::Global;
 use std::io::Read;
@@ -13,6 +13,7 @@ use std::sync::atomic::Ordering;
 /// A log in memory. Whether it is reliable isn't known.
 #[derive(Drop)]
 pub struct ShelfLog {
+    alloc: Global,
     held: Vec<u8>,
     takes_more: bool,
     counts: Arc<Counts, Global>,
@@ -67,6 +68,27 @@ impl Log for ShelfLog {
     }
 }
 
+impl Replaceable for ShelfLog {
+    fn beside(&mut self) -> Result<Self, LogFailed> {
+        match Arc::try_clone(&self.counts) {
+            Ok(counts) => Ok(ShelfLog {
+                alloc: self.alloc,
+                held: Vec::new(self.alloc),
+                takes_more: self.takes_more,
+                counts,
+            }),
+            Err(_) => Err(LogFailed),
+        }
+    }
+
+    fn replace(&mut self, successor: Self) -> Result<(), LogFailed> {
+        self.held = successor.held;
+        Ok(())
+    }
+
+    fn discard(self) {}
+}
+
 // The journal of `MAP END` and an LF that has no record, in hexadecimal digits: worked out from the rules of the format by another program,
 // as the records are.
 const EMPTY: &str =
@@ -86,6 +108,13 @@ const TORN: &str = "c000000000000000024f";
 // A record of number 1, of the batch `OFF a` and an LF.
 const REFUSED: &str =
     "c000000000000000014f464620610a3900ee67a476174cfa1c912a0c5763d7fc6d72586c47ff348d9e29f777bcc764c0";
+
+// The header of such a journal of which one batch was left out, and that of one which says that none was.
+const COMPACTED: &str =
+    "4b45534d4f4348204a4f55524e414c20320ada21d5448cab06b0073428c7c16c73f905ee6f9dfec08b8b9291d2598a373f460000000000000001";
+
+const NONE_LEFT_OUT: &str =
+    "4b45534d4f4348204a4f55524e414c20320ada21d5448cab06b0073428c7c16c73f905ee6f9dfec08b8b9291d2598a373f460000000000000000";
 
 // The signature of a journal, and a fingerprint that is all zeros.
 const OTHER: &str =
@@ -110,6 +139,8 @@ fn add_journal(held: &mut Vec<u8>, alloc: Global, path: &str) -> Result<(), Open
             add(held, alloc, EMPTY) && add(held, alloc, "c0ff") && add(held, alloc, SECOND)
         }
         "refused.journal" => add(held, alloc, EMPTY) && add(held, alloc, REFUSED),
+        "compacted.journal" => add(held, alloc, COMPACTED),
+        "zero.journal" => add(held, alloc, NONE_LEFT_OUT),
         "other.journal" => add(held, alloc, OTHER),
         "none.journal" => add(held, alloc, "4b45"),
         _ => return Err(OpenFault::Failed),
@@ -145,6 +176,7 @@ pub fn log_of(
     }
     match Arc::try_clone(counts) {
         Ok(counts) => Ok(ShelfLog {
+            alloc,
             held,
             takes_more: path != "stuck.journal",
             counts,

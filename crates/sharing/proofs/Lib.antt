@@ -3,3 +3,4 @@ pub mod Answering
 pub mod Keeping
 pub mod Knowing
 pub mod Prefixes
+pub mod Shortened

@@ -1,4 +1,4 @@
-use Rattle.commandline.proofs.Written.{none, check, explained, run, run_explained, serve, served, timed, administered, ended, logged, kept, serve_explained}
+use Rattle.commandline.proofs.Written.{none, check, explained, run, run_explained, serve, served, timed, administered, ended, logged, kept, shortened, serve_explained}
 use Rattle.commandline.proofs.laws.commands_are_written.Goals as goal
 
 pub returns : goal.returns
@@ -15,5 +15,6 @@ returns c = record {
   ended = ended;
   logged = logged;
   kept = kept;
+  shortened = shortened;
   serve_explained = serve_explained;
 }

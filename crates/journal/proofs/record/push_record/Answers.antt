@@ -1,5 +1,6 @@
 use Rattle.std.proofs.Common.{◌≡◌, ◌++◌, List, ℕ, [], ◌∷◌, ◌∙◌, sym, ap, append_assoc}
 use Rattle.sha2.specs.Sha256.{sha256}
+use Rattle.journal.specs.Name.{name_bytes}
 use Rattle.journal.specs.Slip.{stuffed}
 use Rattle.journal.specs.Record.{sequence_bytes}
 use Rattle.journal.proofs.Stuffing.{stuffed_append}
@@ -23,9 +24,9 @@ returns c =
     let second : c.push_stuffed-2.new.out.items ≡ old ++ 192 ∷ [] ++ stuffed sequence ++ stuffed batch = c.in_ok-push_stuffed-2.ensures.ok ∙ ap (λ (l : List ℕ). l ++ stuffed batch) first in
     let third : c.push_stuffed-3.new.out.items ≡ old ++ 192 ∷ [] ++ stuffed sequence ++ stuffed batch ++ stuffed record_digest = c.in_ok-push_stuffed-3.ensures.ok ∙ ap (λ (l : List ℕ). l ++ stuffed record_digest) second in
     let all : c.push-2.new.self.items ≡ old ++ 192 ∷ (stuffed (sequence ++ (batch ++ record_digest)) ++ 192 ∷ []) = c.in_ok-push-2.ensures.items ∙ ap (λ (l : List ℕ). l ++ 192 ∷ []) third ∙ parts old sequence batch record_digest in
-    let sealed : record_digest ≡ sha256 (c.args.fingerprint.now ++ (sequence ++ batch)) = c.record_digest-digest.ensures in
+    let sealed : record_digest ≡ sha256 ((name_bytes c.args.name.now) ++ (sequence ++ batch)) = c.record_digest-digest.ensures in
     let numbered : sequence ≡ sequence_bytes c.args.number = c.sequence-sequence.ensures in
     record {
       spelled = all ∙ ap (λ (l : List ℕ). old ++ 192 ∷ (stuffed (sequence ++ (batch ++ l)) ++ 192 ∷ [])) sealed
-          ∙ ap (λ (p : List ℕ). old ++ 192 ∷ (stuffed (p ++ (batch ++ sha256 (c.args.fingerprint.now ++ (p ++ batch)))) ++ 192 ∷ [])) numbered;
+          ∙ ap (λ (p : List ℕ). old ++ 192 ∷ (stuffed (p ++ (batch ++ sha256 ((name_bytes c.args.name.now) ++ (p ++ batch)))) ++ 192 ∷ [])) numbered;
     }

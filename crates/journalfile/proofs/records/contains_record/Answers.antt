@@ -1,6 +1,7 @@
 use Rattle.std.proofs.Common.{◌≡◌, ℕ, List, [], ◌∷◌, ◌++◌, drop, sym, subst, arith}
 use Rattle.std.proofs.lemmas.Bool.{iff_false}
 use Rattle.sha2.specs.Sha256.{sha256}
+use Rattle.journal.specs.Name.{name_bytes}
 use Rattle.journal.specs.Slip.{HasNoEnd}
 use Rattle.journal.specs.Reading.{IsRecordFrame}
 use Rattle.journal.proofs.Frames.{no_end_torn}
@@ -13,7 +14,7 @@ pub returns-in_default-clause-within : goal.returns-in_default-clause-within
 returns-in_default-clause-within g c reliable =
     let file = g.L.Log.content c.args.log.now in
     let ends : HasNoEnd (drop c.args.frames.now.position file) × (drop c.next_frame.new.self.position file ≡ []) = rw c.in_default.is at c.in_ok-next_frame.ensures.taken reliable in
-    (no_end_torn sha256 c.args.fingerprint.now (drop c.args.frames.now.position file) ends.0, ends.1)
+    (no_end_torn sha256 (name_bytes c.args.name.now) (drop c.args.frames.now.position file) ends.0, ends.1)
 
 pub loop-frame-init : goal.loop-frame-init
 loop-frame-init g c = record {
@@ -23,7 +24,7 @@ loop-frame-init g c = record {
       let file = g.L.Log.content c.args.log.now in
       let first = c.in-Some.field-0.items in
       let taken : HasNoEnd first × (drop c.args.frames.now.position file ≡ first ++ 192 ∷ drop c.next_frame.new.self.position file) = rw c.in-Some.is at c.in_ok-next_frame.ensures.taken reliable in
-      from_first c.args.fingerprint.now (drop c.args.frames.now.position file) first (drop c.next_frame.new.self.position file) taken.0 taken.1;
+      from_first (name_bytes c.args.name.now) (drop c.args.frames.now.position file) first (drop c.next_frame.new.self.position file) taken.0 taken.1;
   read = c.in_ok-next_frame.ensures.read;
 }
 
@@ -36,8 +37,8 @@ returns-then-branch-clause-within g c reliable =
     let end = c.next_frame-in-loop-frame.new.self.position in
     let taken : HasNoEnd frame × (drop start now ≡ frame ++ 192 ∷ drop end now) = rw c.in-Some-2.is at c.in_ok-frame.ensures.taken reliable in
     let split = subst (λ (f : List ℕ). drop start f ≡ frame ++ 192 ∷ drop end f) (c.loop-frame.invariant.read reliable).same taken.1 in
-    found c.args.fingerprint.now (drop c.args.frames.now.position file) (drop start file) frame (drop end file) (c.loop-frame.invariant.from reliable) split
-    (subst (IsRecordFrame sha256 c.args.fingerprint.now) c.as_slice.ensures.value (c.in_ok-is_record.ensures.any.0 c.if-branch.true))
+    found (name_bytes c.args.name.now) (drop c.args.frames.now.position file) (drop start file) frame (drop end file) (c.loop-frame.invariant.from reliable) split
+    (subst (IsRecordFrame sha256 (name_bytes c.args.name.now)) c.as_slice.ensures.value (c.in_ok-is_record.ensures.any.0 c.if-branch.true))
 
 pub loop-frame-preserved : goal.loop-frame-preserved
 loop-frame-preserved g c =
@@ -52,8 +53,8 @@ loop-frame-preserved g c =
       from = λ reliable.
           let taken : HasNoEnd frame × (drop start now ≡ frame ++ 192 ∷ drop end now) = rw c.in-Some-2.is at c.in_ok-frame.ensures.taken reliable in
           let split = subst (λ (f : List ℕ). drop start f ≡ frame ++ 192 ∷ drop end f) (c.loop-frame.invariant.read reliable).same taken.1 in
-          from_next c.args.fingerprint.now (drop c.args.frames.now.position file) (drop start file) frame (drop end file) (c.loop-frame.invariant.from reliable) split taken.0
-          (λ is. iff_false c.in_ok-is_record.ensures.any c.if-branch.false (subst (IsRecordFrame sha256 c.args.fingerprint.now) (sym c.as_slice.ensures.value) is));
+          from_next (name_bytes c.args.name.now) (drop c.args.frames.now.position file) (drop start file) frame (drop end file) (c.loop-frame.invariant.from reliable) split taken.0
+          (λ is. iff_false c.in_ok-is_record.ensures.any c.if-branch.false (subst (IsRecordFrame sha256 (name_bytes c.args.name.now)) (sym c.as_slice.ensures.value) is));
       read = λ reliable. read_more g.L.Log.content g.L.Log.may_leave g.L.Log.moment g.L.Log.left_since c.args.log.now c.loop-frame.log c.next_frame-in-loop-frame.new.log (c.loop-frame.invariant.read reliable) (c.in_ok-frame.ensures.read reliable);
     }
 
@@ -65,4 +66,4 @@ returns-clause-within g c reliable =
     let end = c.next_frame-in-loop-frame.new.self.position in
     let ends : HasNoEnd (drop start now) × (drop end now ≡ []) = rw c.in_default-2.is at c.in_ok-frame.ensures.taken reliable in
     let same = subst (λ (f : List ℕ). HasNoEnd (drop start f) × (drop end f ≡ [])) (c.loop-frame.invariant.read reliable).same ends in
-    (not_found c.args.fingerprint.now (drop c.args.frames.now.position file) (drop start file) (c.loop-frame.invariant.from reliable) same.0, same.1)
+    (not_found (name_bytes c.args.name.now) (drop c.args.frames.now.position file) (drop start file) (c.loop-frame.invariant.from reliable) same.0, same.1)

@@ -1,5 +1,6 @@
 use Rattle.std.proofs.Common.{◌≡◌, ℕ, ◌+◌, List, ◌++◌, length, sym, ◌∙◌, ap, subst, arith, length-append}
 use Rattle.sha2.specs.Sha256.{sha256}
+use Rattle.journal.specs.Name.{name_bytes}
 use Rattle.journal.specs.Texts.{texts_of}
 use Rattle.journal.specs.Record.{records, journal_of}
 use Rattle.journal.proofs.Growing.{journal_append, length-texts}
@@ -15,50 +16,50 @@ use Rattle.journalfile.proofs.writing.Journal.put.Goals as goal
 pub returns-in_default-clause-any_moment : goal.returns-in_default-clause-any_moment
 returns-in_default-clause-any_moment g c reliable kept settled =
     let log = c.args.self.now.log in
-    let fingerprint = c.args.self.now.fingerprint in
+    let name = (name_bytes c.args.self.now.name) in
     let more = texts_of c.args.batches.now in
-    started g.L.Log.moment g.L.Log.left_since log (StandsForFirst fingerprint kept more)
-    (λ f left. stands_first fingerprint kept more f (subst (λ (l : List ℕ). StandsFor fingerprint l kept) (sym (settled.durable f (g.met.L.Log.only_now reliable log f left) ∙ settled.file)) (stands fingerprint kept)))
+    started g.L.Log.moment g.L.Log.left_since log (StandsForFirst name kept more)
+    (λ f left. stands_first name kept more f (subst (λ (l : List ℕ). StandsFor name l kept) (sym (settled.durable f (g.met.L.Log.only_now reliable log f left) ∙ settled.file)) (stands name kept)))
 
 -- the bytes that a crash may leave of the added records stand for the batches, and the first of the new ones
-outcome : (fingerprint : List ℕ) (garbled may_leave : List ℕ → Type 0) (file bytes : List ℕ) (kept more : List (List ℕ)) (count : ℕ)
-    → GarblesNoRecord garbled fingerprint → ((f : List ℕ) → may_leave f → f ≡ file) → file ≡ journal_of sha256 fingerprint kept
-    → bytes ≡ records sha256 fingerprint (count + 1) more → count ≡ length kept
-    → (f : List ℕ) → MayAppend garbled bytes may_leave f → StandsForFirst fingerprint kept more f
-outcome fingerprint garbled may_leave file bytes kept more count shown only is spelled counts f (d, left, torn) =
-    add_crash fingerprint garbled shown kept more f
-    (subst (λ (n : ℕ). Torn garbled (records sha256 fingerprint (n + 1) more) (journal_of sha256 fingerprint kept) f) counts
-    (subst (λ (l : List ℕ). Torn garbled l (journal_of sha256 fingerprint kept) f) spelled
+outcome : (name : List ℕ) (garbled may_leave : List ℕ → Type 0) (file bytes : List ℕ) (kept more : List (List ℕ)) (count : ℕ)
+    → GarblesNoRecord garbled name → ((f : List ℕ) → may_leave f → f ≡ file) → file ≡ journal_of sha256 name kept
+    → bytes ≡ records sha256 name (count + 1) more → count ≡ length kept
+    → (f : List ℕ) → MayAppend garbled bytes may_leave f → StandsForFirst name kept more f
+outcome name garbled may_leave file bytes kept more count shown only is spelled counts f (d, left, torn) =
+    add_crash name garbled shown kept more f
+    (subst (λ (n : ℕ). Torn garbled (records sha256 name (n + 1) more) (journal_of sha256 name kept) f) counts
+    (subst (λ (l : List ℕ). Torn garbled l (journal_of sha256 name kept) f) spelled
     (subst (λ (l : List ℕ). Torn garbled bytes l f) (only d left ∙ is) torn)))
 
 pub returns-in-Err-clause-any_moment : goal.returns-in-Err-clause-any_moment
 returns-in-Err-clause-any_moment g c reliable kept settled =
     let log = c.args.self.now.log in
-    weaker g.L.Log.moment g.L.Log.left_since log c.append_synced.new.log (MayAppend g.L.Log.garbled c.as_slice.result.now (g.L.Log.may_leave log)) (StandsForFirst c.args.self.now.fingerprint kept (texts_of c.args.batches.now)) (c.in-Err.ensures.any_moment reliable)
-    (outcome c.args.self.now.fingerprint g.L.Log.garbled (g.L.Log.may_leave log) (g.L.Log.content log) c.as_slice.result.now kept (texts_of c.args.batches.now) c.args.self.now.count
+    weaker g.L.Log.moment g.L.Log.left_since log c.append_synced.new.log (MayAppend g.L.Log.garbled c.as_slice.result.now (g.L.Log.may_leave log)) (StandsForFirst (name_bytes c.args.self.now.name) kept (texts_of c.args.batches.now)) (c.in-Err.ensures.any_moment reliable)
+    (outcome (name_bytes c.args.self.now.name) g.L.Log.garbled (g.L.Log.may_leave log) (g.L.Log.content log) c.as_slice.result.now kept (texts_of c.args.batches.now) c.args.self.now.count
     (c.requires.recognised reliable) settled.durable settled.file (c.as_slice.ensures.value ∙ c.in-Ok.ensures) settled.count)
 
 pub returns-clause-any_moment : goal.returns-clause-any_moment
 returns-clause-any_moment g c reliable kept settled =
     let log = c.args.self.now.log in
-    weaker g.L.Log.moment g.L.Log.left_since log c.append_synced.new.log (MayAppend g.L.Log.garbled c.as_slice.result.now (g.L.Log.may_leave log)) (StandsForFirst c.args.self.now.fingerprint kept (texts_of c.args.batches.now)) (c.in_default-append_synced.ensures.any_moment reliable)
-    (outcome c.args.self.now.fingerprint g.L.Log.garbled (g.L.Log.may_leave log) (g.L.Log.content log) c.as_slice.result.now kept (texts_of c.args.batches.now) c.args.self.now.count
+    weaker g.L.Log.moment g.L.Log.left_since log c.append_synced.new.log (MayAppend g.L.Log.garbled c.as_slice.result.now (g.L.Log.may_leave log)) (StandsForFirst (name_bytes c.args.self.now.name) kept (texts_of c.args.batches.now)) (c.in_default-append_synced.ensures.any_moment reliable)
+    (outcome (name_bytes c.args.self.now.name) g.L.Log.garbled (g.L.Log.may_leave log) (g.L.Log.content log) c.as_slice.result.now kept (texts_of c.args.batches.now) c.args.self.now.count
     (c.requires.recognised reliable) settled.durable settled.file (c.as_slice.ensures.value ∙ c.in-Ok.ensures) settled.count)
 
 -- the journal with more batches
-grown : (fingerprint old new bytes : List ℕ) (kept more : List (List ℕ)) (count : ℕ) → new ≡ old ++ bytes → old ≡ journal_of sha256 fingerprint kept → bytes ≡ records sha256 fingerprint (count + 1) more
-    → count ≡ length kept → new ≡ journal_of sha256 fingerprint (kept ++ more)
-grown fingerprint old new bytes kept more count added is spelled counts =
-    added ∙ ap (λ (l : List ℕ). l ++ bytes) is ∙ ap (λ (l : List ℕ). journal_of sha256 fingerprint kept ++ l) spelled
-    ∙ sym (journal_append sha256 fingerprint (count + 1) kept more (omega (arith, counts)))
+grown : (name old new bytes : List ℕ) (kept more : List (List ℕ)) (count : ℕ) → new ≡ old ++ bytes → old ≡ journal_of sha256 name kept → bytes ≡ records sha256 name (count + 1) more
+    → count ≡ length kept → new ≡ journal_of sha256 name (kept ++ more)
+grown name old new bytes kept more count added is spelled counts =
+    added ∙ ap (λ (l : List ℕ). l ++ bytes) is ∙ ap (λ (l : List ℕ). journal_of sha256 name kept ++ l) spelled
+    ∙ sym (journal_append sha256 name (count + 1) kept more (omega (arith, counts)))
 
 pub returns-clause-kept : goal.returns-clause-kept
 returns-clause-kept g c reliable kept settled =
-    let fingerprint = c.args.self.now.fingerprint in
+    let name = (name_bytes c.args.self.now.name) in
     let count = c.args.self.now.count in
     let more = texts_of c.args.batches.now in
     record {
-      file = grown fingerprint (g.L.Log.content c.args.self.now.log) (g.L.Log.content c.append_synced.new.log) c.as_slice.result.now kept more count (c.in_default-append_synced.ensures.added reliable) settled.file (c.as_slice.ensures.value ∙ c.in-Ok.ensures) settled.count;
+      file = grown name (g.L.Log.content c.args.self.now.log) (g.L.Log.content c.append_synced.new.log) c.as_slice.result.now kept more count (c.in_default-append_synced.ensures.added reliable) settled.file (c.as_slice.ensures.value ∙ c.in-Ok.ensures) settled.count;
       count = omega (arith, settled.count, length-append kept more, length-texts c.args.batches.now);
       durable = c.in_default-append_synced.ensures.durable reliable;
     }

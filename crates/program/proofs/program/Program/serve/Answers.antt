@@ -1,5 +1,6 @@
 use Rattle.std.proofs.Common.{ap, inl, inr}
 use Rattle.std.proofs.KnownBytes.{Keeps-refl}
+use Rattle.program.proofs.Journals.{nothing-served}
 use Rattle.program.proofs.program.Program.serve.Goals as goal
 
 pub returns-in-Ok-clause-serves : goal.returns-in-Ok-clause-serves
@@ -29,6 +30,6 @@ returns-clause-serves g c = (
     output = Keeps-refl _;
     cause = _;
     without = rw (c.of-folder.ensures.host, c.named_file.ensures.host, c.named_file.ensures.path, c.named_file.ensures.left, c.named_file.ensures.name) at c.in-Err.ensures.without;
-    nothing = ap (λ e. e.served) c.after.ensures;
+    nothing = nothing-served _ _ c.after.ensures;
   }),
 )

@@ -1,0 +1,13 @@
+pub mod Acting
+pub mod Adding
+pub mod Compact
+pub mod Counting
+pub mod Cutting
+pub mod Differing
+pub mod Dropping
+pub mod Finding
+pub mod Leading
+pub mod Noting
+pub mod Parts
+pub mod Placing
+pub mod Reading

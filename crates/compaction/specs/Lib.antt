@@ -1,0 +1,4 @@
+pub mod Compacted
+pub mod LastChanges
+pub mod Law
+pub mod Undone

@@ -1,0 +1,81 @@
+// Journals that are compacted where they are due as batches are kept. Lengths were worked by another program, from the rules of the format.
+
+use crate::starts::{keep, keep_compacted, name};
+use crate::tape::Tape;
+use crate::written::{batches_of, journal_of};
+use journal::push_header;
+use journalfile::Checkpoint;
+use std::alloc::{AllocError, Global};
+use std::test::Fail;
+
+// A CLEAR undoes those before it. The journal has 50 bytes more with each, or 51.
+const CLEARS: &str = "CLEAR p~\nCLEAR p~\nCLEAR p~\nCLEAR p~\nCLEAR p~\nCLEAR p~\nCLEAR p~";
+
+// Nothing undoes these. The journal has 71 bytes more with the first, the fourth and the seventh of them, and 70 with the others.
+const APPENDS: &str = "\
+APPEND 16 p~x,y,n~0.5,0.5,a~
+APPEND 16 p~x,y,n~0.5,0.5,b~
+APPEND 16 p~x,y,n~0.5,0.5,c~
+APPEND 16 p~x,y,n~0.5,0.5,d~
+APPEND 16 p~x,y,n~0.5,0.5,e~
+APPEND 16 p~x,y,n~0.5,0.5,f~
+APPEND 16 p~x,y,n~0.5,0.5,g~";
+
+// The journal of no batches.
+fn empty(alloc: Global) -> Result<Tape, AllocError> {
+    let mut bytes = Vec::new(alloc);
+    push_header(&mut bytes, &name(0))?;
+    Ok(Tape::new(alloc, bytes, 9_000))
+}
+
+// What is noted of a journal in which batches are kept, and which is compacted from so many bytes on.
+fn notes_of(alloc: Global, least: u64, text: &str) -> Result<String, AllocError> {
+    let checkpoint = Checkpoint { least, due: least };
+    let kept = keep_compacted(alloc, empty(alloc)?, checkpoint, &batches_of(alloc, text)?)?;
+    Ok(kept.ok_or(AllocError)?.notes)
+}
+
+#[test]
+fn a_journal_is_compacted_where_it_is_due(rt: HostRuntime) -> Result<(), Fail> {
+    let alloc = rt.alloc();
+    // It has 200 bytes with the third.
+    let notes = notes_of(alloc, 200, CLEARS)?;
+    let expected = " 1+0<200 2+0<200 1+2<216 2+2<216 3+2<216 1+5<216 2+5<216";
+    assert_eq!(rt; notes.as_str(), expected);
+    let notes = notes_of(alloc, 201, CLEARS)?;
+    let expected = " 1+0<201 2+0<201 3+0<201 1+3<216 2+3<216 3+3<216 1+6<216";
+    assert_eq!(rt; notes.as_str(), expected);
+    Ok(())
+}
+
+#[test]
+fn one_of_which_little_is_undone_is_due_at_twice_its_length(rt: HostRuntime) -> Result<(), Fail> {
+    let alloc = rt.alloc();
+    // It has 191 bytes with the second, and 402 with the fifth.
+    let notes = notes_of(alloc, 150, APPENDS)?;
+    let expected = " 1+0<150 2+0<382 3+0<382 4+0<382 5+0<804 6+0<804 7+0<804";
+    assert_eq!(rt; notes.as_str(), expected);
+    Ok(())
+}
+
+#[test]
+fn without_a_checkpoint_a_journal_grows(rt: HostRuntime) -> Result<(), Fail> {
+    let alloc = rt.alloc();
+    let kept = keep(alloc, empty(alloc)?, &batches_of(alloc, CLEARS)?)?.ok_or(AllocError)?;
+    assert_eq!(rt; kept.notes.as_str(), " 1+0 2+0 3+0 4+0 5+0 6+0 7+0");
+    Ok(())
+}
+
+#[test]
+fn the_least_length_stays(rt: HostRuntime) -> Result<(), Fail> {
+    let alloc = rt.alloc();
+    let tape = Tape::new(alloc, journal_of(alloc, 0, CLEARS)?, 9_000);
+    let checkpoint = Checkpoint {
+        least: 400,
+        due: 450,
+    };
+    let batches = batches_of(alloc, "OFF q~")?;
+    let kept = keep_compacted(alloc, tape, checkpoint, &batches)?.ok_or(AllocError)?;
+    assert_eq!(rt; kept.notes.as_str(), " 2+6<400");
+    Ok(())
+}

@@ -1,0 +1,47 @@
+-- A journal that is compacted (docs/SERVICE.md, "Journal").
+use Rattle.std.specs.Prelude.{◌≡◌, ◌⊎◌, ◌<◌, ◌^◌, ℕ, ◌+◌, ◌-◌, List, ◌++◌, length, drop, Bool, true, false}
+use Rattle.sha2.specs.Sha256.{sha256}
+use Rattle.compaction.specs.Compacted.{commands_of, compacted}
+use Rattle.journal.specs.Name.{name_bytes}
+use Rattle.journal.specs.declared.name.JournalName.{JournalName}
+use Rattle.journal.specs.Record.{name_of, records}
+use Rattle.journal.specs.Reading.{StandsFor}
+use Rattle.journalfile.specs.Settled.{IsSettled}
+use Rattle.journalfile.specs.declared.reading.Reader.{Reader}
+use Rattle.journalfile.specs.declared.writing.Journal.{Journal}
+
+-- the first batches of a journal were read, and the records of the others follow
+pub record HasRead (file : List ℕ) (all done left : List (List ℕ)) (reader : Reader) : Type 0 where
+  pub parts : all ≡ done ++ left
+  pub counted : reader.number ≡ length done
+  pub follows : drop reader.frames.position file ≡ records sha256 (name_bytes reader.name) (reader.number + 1) left
+
+-- these batches are what is left of those that were read
+pub record HasLeft (file : List ℕ) (all written : List (List ℕ)) (reader : Reader) : Type 0 where
+  pub done : List (List ℕ)
+  pub left : List (List ℕ)
+  pub read : HasRead file all done left reader
+  pub commands : reader.commands ≡ length (commands_of done)
+  pub is : compacted all ≡ written ++ compacted left
+
+-- how many of some batches are left out
+abbrev pub left_out : List (List ℕ) → ℕ
+left_out batches = length batches - length (compacted batches)
+
+-- a journal is settled with what is left of the batches of another one, and its name says how many were left out
+pub record IsCompacted {L : Type 0} (content : L → List ℕ) (may_leave : L → List ℕ → Type 0) (name : JournalName) (batches : List (List ℕ)) (journal : Journal L) : Type 0 where
+  pub settled : IsSettled content may_leave journal (compacted batches)
+  pub of_map : journal.name.fingerprint ≡ name.fingerprint
+  pub skips : journal.name.skipped ≡ name.skipped + left_out batches
+  pub bounded : journal.name.skipped < 2 ^ 64
+
+-- a journal was compacted, or it has the batches that it had
+abbrev pub HasCompacted : {L : Type 0} → (L → List ℕ) → (L → List ℕ → Type 0) → Journal L → Journal L → List (List ℕ) → Bool → Type 0
+HasCompacted content may_leave old new batches true = IsCompacted content may_leave old.name batches new
+HasCompacted content may_leave old new batches false = IsSettled content may_leave new batches × (new.name ≡ old.name)
+
+-- a file stands for the batches of a journal; or for what is left of them, under the name that says how many were left out
+abbrev pub StandsForLeft : JournalName → List (List ℕ) → List ℕ → Type 0
+StandsForLeft name batches file =
+    StandsFor (name_bytes name) file batches
+    ⊎ ((name.skipped + left_out batches < 2 ^ 64) × StandsFor (name_of name.fingerprint (name.skipped + left_out batches)) file (compacted batches))

@@ -1,0 +1,170 @@
+//! A journal that is written again without the commands that later ones undo, and takes its own place.
+
+ghost use Rattle.std.specs.Prelude.{◌≡◌, ◌<◌, ◌≤◌, ◌+◌, ◌-◌, ◌^◌, [], List, ℕ, length, IfOk, OnOk};
+ghost use Rattle.sha2.specs.Sha256.{sha256};
+ghost use Rattle.compaction.specs.Compacted.{commands_of, compacted};
+ghost use Rattle.compaction.specs.LastChanges.{AreLast};
+ghost use Rattle.journal.specs.Name.{name_bytes};
+ghost use Rattle.journal.specs.Record.{journal_of};
+ghost use Rattle.journalfile.specs.Compacting.{HasCompacted, IsCompacted, StandsForLeft};
+ghost use Rattle.journalfile.specs.Frames.{IsRead};
+ghost use Rattle.journalfile.specs.Keeping.{FileHas, JournalHas};
+ghost use Rattle.journalfile.specs.Log.{LeavesOnly, Only};
+ghost use Rattle.journalfile.specs.Settled.{IsSettled};
+
+use crate::compacting::{count_left, last_changes, write_left};
+use crate::log::Log;
+use crate::reading::{NotCompacted, Records};
+use crate::replaceable::Replaceable;
+use crate::writing::Journal;
+use compaction::LastChanges;
+use journal::JournalName;
+
+/// When a journal is compacted as it is served.
+#[derive(Clone, Copy, Debug)]
+pub struct Checkpoint {
+    /// The least length at which it is, in bytes.
+    pub least: u64,
+    /// The length from which on it is compacted next.
+    pub due: u64,
+}
+
+// A journal without bytes beside another one, for so many of its batches.
+fn beside<L: Replaceable>(journal: &mut Journal<L>, left: u64) -> Result<Journal<L>, NotCompacted>
+    requires fewer { left ≤ journal.old.count }
+    ensures empty { L.reliable → IfOk result (λ successor. L.content successor.log ≡ []) }
+    ensures count { IfOk result (λ successor. successor.count ≡ 0) }
+    ensures of_map { IfOk result (λ successor. successor.name.fingerprint ≡ journal.old.name.fingerprint) }
+    ensures skips { IfOk result (λ successor. successor.name.skipped ≡ journal.old.name.skipped + (journal.old.count - left)) }
+    ensures bounded { IfOk result (λ successor. successor.name.skipped < 2 ^ 64) }
+    ensures same { (journal.new.name ≡ journal.old.name) × (journal.new.count ≡ journal.old.count) }
+    ensures read { L.reliable → IsRead L.content L.may_leave L.moment L.left_since journal.old.log journal.new.log }
+{
+    let out = journal.count - left;
+    let Some(skipped) = journal.name.skipped.checked_add(out) else {
+        return Err(NotCompacted);
+    };
+    let name = JournalName {
+        fingerprint: journal.name.fingerprint,
+        skipped,
+    };
+    match journal.log.beside() {
+        Ok(log) => Ok(Journal {
+            alloc: journal.alloc,
+            log,
+            name,
+            count: 0,
+            length: 0,
+        }),
+        Err(_) => Err(NotCompacted),
+    }
+}
+
+// Writes what is left of the batches of a journal to one without bytes, and syncs it.
+fn write_synced<L: Log>(
+    records: Records,
+    log: &mut L,
+    changes: &LastChanges,
+    successor: &mut Journal<L>,
+) -> Result<(), NotCompacted>
+    requires empty { successor.old.count ≡ 0 }
+    ensures settled { L.reliable → L.content successor.old.log ≡ [] → OnOk result ((all : List (List ℕ))
+        → L.content log.old ≡ journal_of sha256 (name_bytes records.name) all → records.count ≡ length all → AreLast changes.now (commands_of all)
+        → IsSettled L.content L.may_leave successor.new (compacted all)) }
+    ensures synced { L.reliable → OnOk result (Only (L.content successor.new.log) (L.may_leave successor.new.log)) }
+    ensures name { successor.new.name ≡ successor.old.name }
+    ensures read { L.reliable → IsRead L.content L.may_leave L.moment L.left_since log.old log.new }
+{
+    write_left(records, log, changes, successor)?;
+    match successor.log.sync() {
+        Ok(()) => Ok(()),
+        Err(_) => Err(NotCompacted),
+    }
+}
+
+// The journal that is to take the place of another one: what is left of its batches, on a log beside its own.
+fn successor_of<L: Replaceable>(journal: &mut Journal<L>) -> Result<Journal<L>, NotCompacted>
+    ensures compacted { L.reliable → IfOk result (λ successor. (own : List (List ℕ)) → IsSettled L.content L.may_leave journal.old own
+        → IsCompacted L.content L.may_leave journal.old.name own successor) }
+    ensures synced { L.reliable → IfOk result (λ successor. Only (L.content successor.log) (L.may_leave successor.log)) }
+    ensures of_map { IfOk result (λ successor. successor.name.fingerprint ≡ journal.old.name.fingerprint) }
+    ensures bounded { IfOk result (λ successor. successor.name.skipped < 2 ^ 64) }
+    ensures same { (journal.new.name ≡ journal.old.name) × (journal.new.count ≡ journal.old.count) }
+    ensures read { L.reliable → IsRead L.content L.may_leave L.moment L.left_since journal.old.log journal.new.log }
+{
+    let records = Records {
+        alloc: journal.alloc,
+        name: journal.name,
+        count: journal.count,
+    };
+    let changes = last_changes(records, &mut journal.log)?;
+    let left = count_left(records, &mut journal.log, &changes)?;
+    let mut successor = beside(journal, left)?;
+    match write_synced(records, &mut journal.log, &changes, &mut successor) {
+        Ok(()) => Ok(successor),
+        Err(fault) => {
+            successor.log.discard();
+            Err(fault)
+        }
+    }
+}
+
+impl<L: Replaceable> Journal<L> {
+    /// Writes the journal again without the commands that later ones undo and the batches of which none is left, on a log that takes the
+    /// place of its own. It returns whether it did so: where memory is refused, or the other log can't be made, written or synced, the
+    /// journal has the batches that it had. After an error the journal has to be opened again.
+    pub fn compact(&mut self) -> Result<bool, L::Failure>
+        ensures compacted { L.reliable → IfOk result (λ is_compacted. (own : List (List ℕ)) → IsSettled L.content L.may_leave self.old own
+            → HasCompacted L.content L.may_leave self.old self.new own is_compacted) }
+
+        // A crash at any moment leaves its batches, or what is left of them under its next name.
+        ensures any_moment { L.reliable → (own : List (List ℕ)) → IsSettled L.content L.may_leave self.old own
+            → LeavesOnly L.moment L.left_since self.old.log self.new.log (StandsForLeft self.old.name own) }
+
+        ensures of_map { self.new.name.fingerprint ≡ self.old.name.fingerprint }
+    {
+        let Ok(successor) = successor_of(self) else {
+            return Ok(false);
+        };
+        let Journal {
+            log,
+            name,
+            count,
+            length,
+            ..
+        } = successor;
+        self.log.replace(log)?;
+        self.name = name;
+        self.count = count;
+        self.length = length;
+        Ok(true)
+    }
+}
+
+/// A journal that is compacted as it is served.
+#[derive(Drop)]
+pub struct CompactedJournal<L> {
+    /// The journal.
+    pub journal: Journal<L>,
+    /// When it is compacted.
+    pub checkpoint: Checkpoint,
+}
+
+impl<L: Replaceable> CompactedJournal<L> {
+    /// Compacts the journal where it is due, and says when it is due next: where it has twice the bytes that it has now.
+    pub(crate) fn compact_where_due(&mut self) -> Result<(), L::Failure>
+        ensures has { L.reliable → OnOk result ((batches : List (List ℕ)) → JournalHas L.content L.may_leave self.old.journal batches
+            → JournalHas L.content L.may_leave self.new.journal batches) }
+        ensures any_moment { L.reliable → (batches : List (List ℕ)) → JournalHas L.content L.may_leave self.old.journal batches
+            → LeavesOnly L.moment L.left_since self.old.journal.log self.new.journal.log (λ file. FileHas self.old.journal.name.fingerprint file batches) }
+        ensures of_map { self.new.journal.name.fingerprint ≡ self.old.journal.name.fingerprint }
+    {
+        if self.journal.length < self.checkpoint.due {
+            return Ok(());
+        }
+        self.journal.compact()?;
+        let twice = self.journal.length.saturating_mul(2);
+        self.checkpoint.due = twice.max(self.checkpoint.least);
+        Ok(())
+    }
+}

@@ -1,0 +1,20 @@
+use Rattle.std.proofs.Common.{◌++◌}
+use Rattle.journal.specs.Name.{name_bytes}
+use Rattle.journalfile.proofs.Skipping.{empties}
+use Rattle.program.proofs.Journals.{of-some, settled-has}
+use Rattle.program.proofs.program.Program.serve_journal.Goals as goal
+
+pub serve_whole-requires-clause-ready : goal.serve_whole-requires-clause-ready
+serve_whole-requires-clause-ready g c κs lives = (
+  c.requires.settled.0,
+  λ reliable. (c.requires.recognised reliable (name_bytes c.args.kept.keeper.name), c.requires.settled.1 reliable),
+)
+
+pub serve_compacted-requires-clause-ready : goal.serve_compacted-requires-clause-ready
+serve_compacted-requires-clause-ready g c κs lives = (
+  empties c.args.kept.keeper.name.skipped ++ c.requires.settled.0,
+  λ reliable. (c.requires.recognised reliable, settled-has _ _ c.args.kept.keeper c.requires.settled.0 c.requires.bounded (c.requires.settled.1 reliable)),
+)
+
+pub returns-clause-serves : goal.returns-clause-serves
+returns-clause-serves g c = of-some c.args.service.checkpoint _ _ c.if-service-eq0.false (rw c.checkpoint_of-checkpoint.ensures at c.serve_compacted.ensures.serves)
