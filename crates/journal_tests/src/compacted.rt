@@ -75,7 +75,8 @@ fn undone_commands_are_left_out(rt: HostRuntime) -> Result<(), Fail> {
         "4 there, 4 left out: p 'c', q off, sequence 8"
     );
     assert!(rt; left.starts_with(b"KESMOCH JOURNAL 2\n"));
-    assert!(rt; left[50..58] == [0, 0, 0, 0, 0, 0, 0, 4]);
+    let skipped = left.get(50..58).unwrap_or(&[]);
+    assert!(rt; skipped == [0, 0, 0, 0, 0, 0, 0, 4].as_slice());
     assert!(rt; is_compacted_to(alloc, all, &left)?);
     Ok(())
 }
