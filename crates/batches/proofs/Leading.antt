@@ -2,7 +2,8 @@
 use Rattle.std.proofs.Common.{◌≡◌, ◌∙◌, ℕ, zero, suc, ◌+◌, ◌<◌, ◌≤◌, Bool, true, false, List, [], ◌∷◌, ◌==◌, eqb-true, length, drop, take, Option, None, Some, Result, Ok, Err, nat_lt, refl, sym, ap, arith, length-drop}
 use Rattle.std.proofs.lemmas.Bool.Decides.{nat_tests}
 use Rattle.std.specs.List.{after_first, before_first, position_or_len}
-use Rattle.batches.specs.Batch.{IsBatchErrorOf, IsErrorOf, after, after_reading, and_then, at_command, at_index, applied, unread}
+use Rattle.batches.specs.Batch.{IsBatchErrorOf, IsErrorOf, after, after_reading, at_command, at_index, applied, unread}
+use Rattle.mapdefs.specs.Outcome.{and_then}
 use Rattle.batches.specs.Command.{Reading, first_command, is_line_end, line_of, reading_of, reading_within, step, with_bytes, with_command, without_cr}
 use Rattle.batches.specs.declared.command.Command.{Command}
 use Rattle.batches.specs.declared.command.CommandFault.{CommandFault}

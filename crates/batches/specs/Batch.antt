@@ -22,11 +22,7 @@ use Rattle.batches.specs.declared.fault.BatchKind.{BatchKind}
 use Rattle.batches.specs.declared.fault.BatchKind.TheVariants as kind
 use Rattle.batches.specs.declared.fault.BatchFault.{BatchFault}
 use Rattle.batches.specs.declared.fault.TheConstants.{MAX_BATCH}
-
--- reading goes on with what was found, and the first fault is the fault of all
-abbrev pub and_then : {A B E : Type 0} → Result A E → (A → Result B E) → Result B E
-and_then (Ok a) next = next a
-and_then (Err e) next = Err e
+use Rattle.mapdefs.specs.Outcome.{and_then}
 
 -- a change, whose refusal is a kind of fault of a batch
 abbrev pub refusal_fault : {A : Type 0} → Result A Refusal → Result A BatchKind

@@ -6,7 +6,8 @@ use Rattle.csvpoints.specs.declared.fault.CsvFault.{CsvFault}
 use Rattle.csvpoints.specs.declared.fault.CsvKind.{CsvKind}
 use Rattle.csvpoints.specs.declared.header.Columns.{Columns}
 use Rattle.csvpoints.specs.declared.table.TableFields.{TableFields}
-use Rattle.csvpoints.specs.Fault.{at_row, and_then}
+use Rattle.csvpoints.specs.Fault.{at_row}
+use Rattle.mapdefs.specs.Outcome.{and_then}
 use Rattle.csvpoints.specs.Row.{columns_of}
 use Rattle.csvpoints.specs.Table.{HasEachRow, all_of, features_of, numbered_feature}
 

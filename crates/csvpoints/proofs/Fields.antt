@@ -88,6 +88,35 @@ other-bytes fields texts i f at bytes h =
     let (all, utf8) = rw (field-some fields i f at, not-text f bytes) at h in
     rw (← utf8) refl
 
+-- a field that is added to the texts so far leaves those after it
+pub one-added : (fields texts all : List (List ℕ)) (i : ℕ) (f : List ℕ) → field_at fields i ≡ Some f → texts ++ drop i fields ≡ all →
+    (texts ++ f ∷ []) ++ drop (i + 1) fields ≡ all
+one-added fields texts all i f at h = rw (one-more i) (append_assoc texts (f ∷ []) (drop (suc i) fields) ∙ (rw (field-some fields i f at) at h))
+
+pub all-added : (fields texts all : List (List ℕ)) (i : ℕ) → field_at fields i ≡ None → texts ++ drop i fields ≡ all → texts ≡ all
+all-added fields texts all i at h = rw (field-none fields i at, append-nil texts) at h
+
+-- where each field was passed, all are texts, and where one isn't UTF-8 they aren't
+pub all-passed : (fields : List (List ℕ)) (i : ℕ) → field_at fields i ≡ None → list_all is_utf8 (drop i fields) ≡ list_all is_utf8 fields → texts_of fields ≡ Ok fields
+all-passed fields i at h = let utf8 = rw (field-none fields i at) at h in rw (← utf8) refl
+
+pub not-all-texts : (fields : List (List ℕ)) (i : ℕ) (f : List ℕ) → field_at fields i ≡ Some f → ¬ (IsUtf8 f) →
+    list_all is_utf8 (drop i fields) ≡ list_all is_utf8 fields → texts_of fields ≡ Err NotText
+not-all-texts fields i f at bytes h = let utf8 = rw (field-some fields i f at, not-text f bytes) at h in rw (← utf8) refl
+
+-- the field of a column
+pub field-read : (fields : List (List ℕ)) (column : ℕ) (f : List ℕ) → field_at fields column ≡ Some f → get_or fields column [] ≡ f
+unfolding field_at
+field-read [] column f h = absurd (cc h)
+field-read (x ∷ xs) zero f h = cc h
+field-read (x ∷ xs) (suc column) f h = field-read xs column f h
+
+pub field-there : (fields : List (List ℕ)) (column : ℕ) → column < length fields → ¬ (field_at fields column ≡ None)
+unfolding field_at
+field-there [] column h e = absurd (omega (arith, h))
+field-there (x ∷ xs) zero h e = absurd (cc e)
+field-there (x ∷ xs) (suc column) h e = field-there xs column (omega (arith, h)) e
+
 -- a field that is UTF-8 leaves it to those after it whether all fields are
 pub one-passed : (fields : List (List ℕ)) (i : ℕ) (f : List ℕ) → field_at fields i ≡ Some f → IsUtf8 f →
     list_all is_utf8 (drop i fields) ≡ list_all is_utf8 fields → list_all is_utf8 (drop (i + 1) fields) ≡ list_all is_utf8 fields

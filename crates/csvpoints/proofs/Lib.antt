@@ -1,4 +1,5 @@
 pub mod EachRow
 pub mod Fields
 pub mod Records
-pub mod Rows
+pub mod RowFeatures
+pub mod RowsLeft

@@ -20,11 +20,6 @@ abbrev pub at_row : {A : Type 0} → ℕ → Result A CsvKind → Result A CsvFa
 at_row number (Ok a) = Ok a
 at_row number (Err kind) = Err (record { row = number; kind = kind })
 
--- reading goes on with what was read, and the first fault is the fault of all
-abbrev pub and_then : {A B E : Type 0} → Result A E → (A → Result B E) → Result B E
-and_then (Ok a) next = next a
-and_then (Err e) next = Err e
-
 -- the error is the fault of this reading, or memory was refused
 abbrev pub IsFaultOf : {A : Type 0} → Result A CsvFault → CsvError → Type 0
 IsFaultOf reading (Fault fault) = reading ≡ Err fault

@@ -1,4 +1,5 @@
 pub mod Fault
 pub mod Row
+pub mod Rows
 pub mod Source
 pub mod Table

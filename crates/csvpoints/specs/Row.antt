@@ -9,7 +9,7 @@ use Rattle.mapdefs.specs.declared.limits.TheConstants.{MAX_ITEMS}
 use Rattle.csvpoints.specs.declared.fault.CsvKind.{CsvKind}
 use Rattle.csvpoints.specs.declared.fault.CsvKind.TheVariants.{NoColumn, BadNumber, Uneven, NotText, Limit}
 use Rattle.csvpoints.specs.declared.header.Columns.{Columns}
-use Rattle.csvpoints.specs.Fault.{and_then}
+use Rattle.mapdefs.specs.Outcome.{and_then}
 
 -- the fields of a record, if each is UTF-8
 abbrev pub texts_of : List (List ℕ) → Result (List (List ℕ)) CsvKind

@@ -9,7 +9,8 @@ use Rattle.csvpoints.specs.declared.fault.CsvFault.{CsvFault}
 use Rattle.csvpoints.specs.declared.fault.CsvKind.TheVariants.{NoHeader, Limit}
 use Rattle.csvpoints.specs.declared.header.Columns.{Columns}
 use Rattle.csvpoints.specs.declared.table.TableFields.{TableFields}
-use Rattle.csvpoints.specs.Fault.{at_row, and_then}
+use Rattle.csvpoints.specs.Fault.{at_row}
+use Rattle.mapdefs.specs.Outcome.{and_then}
 use Rattle.csvpoints.specs.Row.{columns_of, feature_of}
 
 -- the header, its columns and the rows under it, or what is wrong with the header

@@ -13,8 +13,10 @@ mod fault;
 mod header;
 pub mod laws;
 mod row;
+mod rows;
 mod source;
 mod table;
 
 pub use fault::{CsvError, CsvFault, CsvKind};
+pub use rows::Rows;
 pub use table::{Table, TableFields, read};

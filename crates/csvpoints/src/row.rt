@@ -1,15 +1,16 @@
-ghost use Rattle.std.specs.Prelude.{◌≡◌, ◌<◌, ◌∷◌, [], length, None, Ok, MatchResult, IfOk};
+ghost use Rattle.std.specs.Prelude.{◌≡◌, ◌<◌, ◌++◌, length, Ok, MatchResult, OnOk};
 ghost use Rattle.csv.specs.Records.{fields_of};
+ghost use Rattle.geom.specs.Number.{coordinate_of};
 ghost use Rattle.csvpoints.specs.Fault.{IsFaultOf, at_row};
 ghost use Rattle.csvpoints.specs.Row.{texts_of, after_spaces, before_spaces, coordinate_in, feature_of, HasColumns};
-ghost use Rattle.csvpoints.specs.Table.{IsPointWith};
+ghost use Rattle.csvpoints.specs.Rows.{point_with};
 
 use crate::fault::{CsvError, CsvFault, CsvKind};
 use crate::header::Columns;
 use csv::ByteRecord;
 use geom::{COORDINATE_LIMIT, Coordinate, Micro, World};
-use mapdefs::{Feature, FeatureFields, Items, Part, Text};
-use std::alloc::{AllocError, Global};
+use mapdefs::{Items, Text, Texts};
+use std::alloc::Global;
 
 // The text without its leading spaces.
 #[tactic(auto, unfolding(crate::specs::Row::after_spaces))]
@@ -37,15 +38,24 @@ fn before_spaces(text: &[u8]) -> &[u8]
     &[]
 }
 
-// The coordinate in a column.
-fn coordinate_in(values: &[Text], column: usize) -> Option<Coordinate>
-    requires { column < length values.now }
-    ensures { result ≡ coordinate_in values.now column }
+// The coordinate of a text. Spaces at both ends are no part of it.
+fn coordinate_of(text: &[u8]) -> Option<Coordinate>
+    ensures { result ≡ coordinate_of (before_spaces (after_spaces text.now)) }
 {
-    let text = before_spaces(after_spaces(values[column].as_str().as_bytes()));
-    match Micro::read(text, COORDINATE_LIMIT) {
+    match Micro::read(before_spaces(after_spaces(text)), COORDINATE_LIMIT) {
         Ok(number) => Some(Coordinate::new(number)),
         Err(_) => None,
+    }
+}
+
+// The coordinate in a column.
+fn coordinate_in(row: &ByteRecord, column: usize) -> Option<Coordinate>
+    requires { column < length (fields_of row.now) }
+    ensures { result ≡ coordinate_in (fields_of row.now) column }
+{
+    match row.get(column) {
+        Some(text) => coordinate_of(text),
+        None => None,
     }
 }
 
@@ -68,42 +78,46 @@ pub fn texts_of(alloc: Global, row: &ByteRecord, number: u64) -> Result<Items<Te
     Ok(texts)
 }
 
-// The feature at a place.
-fn point_at(alloc: Global, values: Items<Text>, place: World) -> Result<Feature, AllocError>
-    ensures { IfOk result (λ f. f ≡ record { parts = (place ∷ []) ∷ []; text = None; values = values }) }
+// Adds the fields of a record to the texts of those before it, if each is UTF-8.
+fn add_texts(texts: &mut Texts, row: &ByteRecord, number: u64) -> Result<(), CsvError>
+    ensures texts { OnOk result (texts.new ≡ texts.old ++ fields_of row.now) }
+    ensures value { MatchResult result
+        (λ _. texts_of (fields_of row.now) ≡ Ok (fields_of row.now))
+        (IsFaultOf (at_row number (texts_of (fields_of row.now)))) }
 {
-    let part = Part::of(alloc, vec![in alloc; place]?)?;
-    let parts = Items::of(vec![in alloc; part]?);
-    Ok(Feature::new(FeatureFields {
-        parts,
-        text: None,
-        values,
-    }))
+    for field in row {
+        match str::from_utf8(field) {
+            Ok(text) => texts.push(text)?,
+            Err(_) => {
+                let kind = CsvKind::NotText;
+                return Err(CsvError::Fault(CsvFault { row: number, kind }));
+            }
+        }
+    }
+    Ok(())
 }
 
-/// The feature of a row under a header.
-pub fn feature_of(
-    alloc: Global,
+/// The place of a row under a header. Its texts are added to those of the rows before it.
+pub fn read_row(
+    texts: &mut Texts,
     row: &ByteRecord,
     columns: Columns,
     number: u64,
-) -> Result<Feature, CsvError>
+) -> Result<World, CsvError>
     requires { HasColumns columns }
     ensures value { MatchResult result
-        (λ feature. feature_of columns (fields_of row.now) ≡ Ok feature)
+        (λ place. feature_of columns (fields_of row.now) ≡ Ok (point_with (fields_of row.now) place))
         (IsFaultOf (at_row number (feature_of columns (fields_of row.now)))) }
-    ensures point { IfOk result (IsPointWith columns.count) }
+    ensures texts { OnOk result (texts.new ≡ texts.old ++ fields_of row.now) }
+    ensures count { OnOk result (length (fields_of row.now) ≡ columns.count) }
 {
     if row.len() != columns.count {
         let kind = CsvKind::Uneven;
         return Err(CsvError::Fault(CsvFault { row: number, kind }));
     }
-    let values = texts_of(alloc, row, number)?;
-    match (
-        coordinate_in(values.as_slice(), columns.x),
-        coordinate_in(values.as_slice(), columns.y),
-    ) {
-        (Some(x), Some(y)) => Ok(point_at(alloc, values, World::new(x, y))?),
+    add_texts(texts, row, number)?;
+    match (coordinate_in(row, columns.x), coordinate_in(row, columns.y)) {
+        (Some(x), Some(y)) => Ok(World::new(x, y)),
         _ => {
             let kind = CsvKind::BadNumber;
             Err(CsvError::Fault(CsvFault { row: number, kind }))

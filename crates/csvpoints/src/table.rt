@@ -8,10 +8,11 @@ ghost use Rattle.csvpoints.specs.Table.{header_of, features_of, table_of, IsPoin
 
 use crate::fault::{CsvError, CsvFault, CsvKind};
 use crate::header::{Columns, columns_of};
-use crate::row::{feature_of, texts_of};
+use crate::row::{read_row, texts_of};
+use crate::rows::Rows;
 use crate::source::{read_record, reader_of};
 use csv::{ByteRecord, Reader};
-use mapdefs::{Feature, Items, Limited, Limits, MAX_ITEMS, Text};
+use mapdefs::{Items, Limited, Limits, MAX_ITEMS, Text, Texts};
 use std::alloc::Global;
 
 /// What a table says.
@@ -20,7 +21,7 @@ pub struct TableFields {
     /// The names of the columns, in order.
     pub columns: Items<Text>,
     /// A feature for each row, in order. Its values are the row's fields.
-    pub features: Items<Feature>,
+    pub features: Rows,
 }
 
 impl Limits for TableFields {
@@ -50,7 +51,6 @@ fn fault_of_long_header(row: &ByteRecord) -> CsvKind
 fn read_header(
     alloc: Global,
     reader: &mut Reader<&[u8]>,
-    row: &mut ByteRecord,
     x: &str,
     y: &str,
 ) -> Result<(Items<Text>, Columns), CsvError>
@@ -61,15 +61,16 @@ fn read_header(
     ensures reading { IfOk result (λ _. IsReading reader.new) }
     ensures columns { IfOk result (λ header. HasColumns header.1 × (header.1.count ≡ length header.0)) }
 {
-    if !read_record(reader, row)? {
+    let mut row = ByteRecord::new(alloc);
+    if !read_record(reader, &mut row)? {
         let kind = CsvKind::NoHeader;
         return Err(CsvError::Fault(CsvFault { row: 1, kind }));
     }
     if row.len() > MAX_ITEMS {
-        let kind = fault_of_long_header(row);
+        let kind = fault_of_long_header(&row);
         return Err(CsvError::Fault(CsvFault { row: 1, kind }));
     }
-    let names = texts_of(alloc, row, 1)?;
+    let names = texts_of(alloc, &row, 1)?;
     match columns_of(names.as_slice(), x, y) {
         Ok(columns) => Ok((names, columns)),
         Err(kind) => Err(CsvError::Fault(CsvFault { row: 1, kind })),
@@ -80,31 +81,32 @@ fn read_header(
 fn read_rows(
     alloc: Global,
     reader: &mut Reader<&[u8]>,
-    row: &mut ByteRecord,
     columns: Columns,
     limit: u32,
-) -> Result<Items<Feature>, CsvError>
+) -> Result<Rows, CsvError>
     requires reading { IsReading reader.old }
     requires columns { HasColumns columns }
     ensures value { MatchResult result
-        (λ features. features_of columns limit 2 (left reader.old) ≡ Ok features)
+        (λ rows. features_of columns limit 2 (left reader.old) ≡ Ok rows)
         (IsFaultOf (features_of columns limit 2 (left reader.old))) }
     ensures points { IfOk result (All (IsPointWith columns.count)) }
-    ensures rows { IfOk result (λ features. length features ≤ limit) }
+    ensures rows { IfOk result (λ rows. length rows ≤ limit) }
 {
-    let mut features = Items::new(alloc);
+    let mut row = ByteRecord::new(alloc);
+    let mut places = Items::new(alloc);
+    let mut texts = Texts::new(alloc);
     for index in 0..limit {
-        if !read_record(reader, row)? {
-            return Ok(features);
+        if !read_record(reader, &mut row)? {
+            return Ok(Rows::of(columns.count, places, texts));
         }
-        features.push(feature_of(alloc, row, columns, u64::from(index) + 2)?)?;
+        places.push(read_row(&mut texts, &row, columns, u64::from(index) + 2)?)?;
     }
-    if read_record(reader, row)? {
+    if read_record(reader, &mut row)? {
         let kind = CsvKind::Limit;
         let row = u64::from(limit) + 2;
         return Err(CsvError::Fault(CsvFault { row, kind }));
     }
-    Ok(features)
+    Ok(Rows::of(columns.count, places, texts))
 }
 
 /// Reads a table of points in one pass: the table that a text of CSV is, or its first fault with the
@@ -125,8 +127,7 @@ pub fn read(alloc: Global, bytes: &[u8], x: &str, y: &str, limit: u32) -> Result
     ensures rows { IfOk result (λ t. length t.features ≤ limit) }
 {
     let mut reader = reader_of(alloc, bytes);
-    let mut row = ByteRecord::new(alloc);
-    let (columns, indices) = read_header(alloc, &mut reader, &mut row, x, y)?;
-    let features = read_rows(alloc, &mut reader, &mut row, indices, limit)?;
+    let (columns, indices) = read_header(alloc, &mut reader, x, y)?;
+    let features = read_rows(alloc, &mut reader, indices, limit)?;
     Ok(Table::new(TableFields { columns, features }))
 }

@@ -6,7 +6,7 @@ ghost use Rattle.mapdefs.specs.Class.{holds};
 ghost use Rattle.mapdefs.specs.Name.{is_same_name};
 
 use geom::{Micro, NUMBER_LIMIT};
-use mapdefs::{Comparison, Expr, Operand, Rule, Text};
+use mapdefs::{Comparison, Expr, Operand, Rule, Text, Values};
 use std::cmp::Ordering;
 
 // Whether two texts are equal without regard to case of ASCII letters.
@@ -25,20 +25,17 @@ fn item_index(names: &[Text], name: &str) -> Option<usize>
 
 /// The value of the first item with this name, without regard to case of ASCII letters, or the empty
 /// text where there is none.
-pub fn item_value<'a>(names: &[Text], values: &'a [Text], name: &str) -> &'a str
+pub fn item_value<'a>(names: &[Text], values: &'a Values, name: &str) -> &'a str
     ensures { result.now ≡ item_value names.now values.now name.now }
 {
     let Some(index) = item_index(names, name) else {
         return "";
     };
-    match values.get(index) {
-        Some(value) => value.as_str(),
-        None => "",
-    }
+    values.get(index).unwrap_or("")
 }
 
 // The text of an operand.
-fn text_of<'a>(names: &[Text], values: &'a [Text], operand: &'a Operand) -> &'a str
+fn text_of<'a>(names: &[Text], values: &'a Values, operand: &'a Operand) -> &'a str
     ensures { result.now ≡ text_of names.now values.now operand.now }
 {
     match operand {
@@ -55,7 +52,7 @@ fn asks_numbers(operand: &Operand) -> bool
 }
 
 // The number of an operand, if it has one.
-fn number_of(names: &[Text], values: &[Text], operand: &Operand) -> Option<Micro>
+fn number_of(names: &[Text], values: &Values, operand: &Operand) -> Option<Micro>
     ensures { result ≡ number_of names.now values.now operand.now }
 {
     match operand {
@@ -110,7 +107,7 @@ fn is_true_of_texts(comparison: Comparison, left: &str, right: &str) -> bool
 // Whether a comparison is true of a feature.
 fn is_true(
     names: &[Text],
-    values: &[Text],
+    values: &Values,
     comparison: Comparison,
     left: &Operand,
     right: &Operand,
@@ -130,7 +127,7 @@ fn is_true(
 
 // Whether some part is true of a feature.
 #[cycle(truth)]
-fn is_any_true(names: &[Text], values: &[Text], parts: &[Expr]) -> bool
+fn is_any_true(names: &[Text], values: &Values, parts: &[Expr]) -> bool
     ensures { result ≡ list_any (truth names.now values.now) parts.now }
 {
     for part in parts {
@@ -143,7 +140,7 @@ fn is_any_true(names: &[Text], values: &[Text], parts: &[Expr]) -> bool
 
 // Whether each part is true of a feature.
 #[cycle(truth)]
-fn are_all_true(names: &[Text], values: &[Text], parts: &[Expr]) -> bool
+fn are_all_true(names: &[Text], values: &Values, parts: &[Expr]) -> bool
     ensures { result ≡ list_all (truth names.now values.now) parts.now }
 {
     for part in parts {
@@ -156,7 +153,7 @@ fn are_all_true(names: &[Text], values: &[Text], parts: &[Expr]) -> bool
 
 // Whether an expression is true of a feature.
 #[cycle(truth)]
-fn is_expr_true(names: &[Text], values: &[Text], expr: &Expr) -> bool
+fn is_expr_true(names: &[Text], values: &Values, expr: &Expr) -> bool
     ensures { result ≡ truth names.now values.now expr.now }
 {
     match expr {
@@ -178,7 +175,7 @@ fn is_among(texts: &[Text], value: &str) -> bool
 /// the value of the class item.
 ///
 /// It takes no memory, and recurses as deep as the expression is nested.
-pub fn holds(rule: &Rule, names: &[Text], values: &[Text], class_value: &str) -> bool
+pub fn holds(rule: &Rule, names: &[Text], values: &Values, class_value: &str) -> bool
     ensures { result ≡ holds rule.now names.now values.now class_value.now }
 {
     match rule {

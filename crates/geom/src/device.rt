@@ -1,4 +1,5 @@
 ghost use Rattle.std.specs.Prelude.{◌≡◌, ◌^◌, pos};
+ghost use Rattle.geom.specs.Device.{centre};
 ghost use Rattle.geom.specs.Range.{IsBelow};
 
 use std::marker::Model;
@@ -119,4 +120,13 @@ impl Pixel {
     {
         self.j
     }
+}
+
+/// The sixteenths of a pixel from the top to the pixel centres of a row.
+pub fn row_centre(row: u16) -> i64
+    ensures value { result ≡ centre (pos row) }
+    ensures range { IsBelow (2 ^ 47) result }
+    ensures small { IsBelow (2 ^ 24) result }
+{
+    16 * i64::from(row) + 8
 }

@@ -26,7 +26,7 @@ mod world;
 mod writing;
 
 pub use coordinate::{Coordinate, GREATEST_COORDINATE, LEAST_COORDINATE};
-pub use device::{Device, Pixel};
+pub use device::{Device, Pixel, row_centre};
 pub use edge::Edge;
 pub use micro::{COORDINATE_LIMIT, Micro, NUMBER_LIMIT, NumberFault};
 pub use natural::read_digits;

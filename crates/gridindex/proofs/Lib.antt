@@ -3,3 +3,4 @@ pub mod Hits
 pub mod Orders
 pub mod Rising
 pub mod InOrder
+pub mod Lesser

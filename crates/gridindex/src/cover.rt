@@ -40,25 +40,9 @@ fn joined(a: WorldBox, b: WorldBox) -> WorldBox
     ensures other { Encloses result b }
 {
     WorldBox::new(
-        lesser(a.minx(), b.minx()),
-        lesser(a.miny(), b.miny()),
-        greater(a.maxx(), b.maxx()),
-        greater(a.maxy(), b.maxy()),
+        a.minx().min(b.minx()),
+        a.miny().min(b.miny()),
+        a.maxx().max(b.maxx()),
+        a.maxy().max(b.maxy()),
     )
-}
-
-// The lesser of two numbers.
-fn lesser(a: Micro, b: Micro) -> Micro
-    ensures one { result ≤ℤ a }
-    ensures other { result ≤ℤ b }
-{
-    Micro::new(a.millionths().min(b.millionths()))
-}
-
-// The greater of two numbers.
-fn greater(a: Micro, b: Micro) -> Micro
-    ensures one { a ≤ℤ result }
-    ensures other { b ≤ℤ result }
-{
-    Micro::new(a.millionths().max(b.millionths()))
 }

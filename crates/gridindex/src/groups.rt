@@ -1,11 +1,11 @@
-ghost use Rattle.std.specs.Prelude.{nat_eq, ◌≡◌, ◌≤◌, ◌<◌, ◌+◌, ◌^◌, ◌↔◌, [], ◌∷◌, ◌++◌, List, length, IsTrue, IfOk, OnOk, OnErr};
-ghost use Rattle.std.specs.List.{IsDistinct};
+ghost use Rattle.std.specs.Prelude.{◌≡◌, ◌≤◌, ◌<◌, ◌^◌, [], ◌∷◌, ◌++◌, List, length, IfOk, OnOk, OnErr};
 ghost use Rattle.geom.specs.World.{Area};
 ghost use Rattle.gridindex.specs.Groups.{HasFound, IsKept};
-ghost use Rattle.gridindex.specs.Window.{IsAnswer, IsAnswerOfFirst, MeetsAt};
+ghost use Rattle.gridindex.specs.Window.{IsAnswer};
 
 use crate::level::{Level, SMALLEST, copied, levels_of, past_missed};
 use crate::order::order_of;
+use crate::search::Search;
 use geom::WorldBox;
 use std::alloc::{AllocError, Global};
 
@@ -87,21 +87,16 @@ impl Groups {
         requires { IsKept self.now boxes.now }
         ensures { IfOk result (λ found. IsAnswer window boxes.now found.items) }
     {
+        let search = Search { boxes, window };
         let mut found = Vec::new(alloc);
         let mut at = 0;
         while at < self.grouped {
-            at = self.step(boxes, window, at, &mut found)?;
+            at = self.step(&search, at, &mut found)?;
         }
-        add_hits(
-            boxes,
-            &self.order,
-            (at, self.order.len()),
-            window,
-            &mut found,
-        )?;
+        search.add_hits(&self.order, at..self.order.len(), &mut found)?;
         if found.len() > boxes.len() / MANY {
             found.clear();
-            add_in_order(boxes, window, &mut found)?;
+            search.add_in_order(&mut found)?;
             return Ok(found);
         }
         found.sort_unstable();
@@ -110,90 +105,20 @@ impl Groups {
 
     // Leaves out the largest group at `at` that misses the window, or tries the boxes of the smallest
     // group. Gives where it ends.
-    fn step(
-        &self,
-        boxes: &[WorldBox],
-        window: WorldBox,
-        at: usize,
-        found: &mut Vec<u32>,
-    ) -> Result<usize, AllocError>
-        requires kept { IsKept self.now boxes.now }
+    fn step(&self, search: &Search, at: usize, found: &mut Vec<u32>) -> Result<usize, AllocError>
+        requires kept { IsKept self.now search.now.boxes.now }
         requires grouped { at < self.now.grouped }
         ensures further { IfOk result (λ end. at < end) }
         ensures bound { IfOk result (λ end. end ≤ self.now.grouped) }
-        ensures found { IfOk result (λ end. HasFound window boxes.now self.now.order.items at found.old.items →
-            HasFound window boxes.now self.now.order.items end found.new.items) }
+        ensures found { IfOk result (λ end. HasFound search.now.window search.now.boxes.now self.now.order.items at found.old.items →
+            HasFound search.now.window search.now.boxes.now self.now.order.items end found.new.items) }
     {
-        let past = past_missed(&self.levels, at, window).min(self.grouped);
+        let past = past_missed(&self.levels, at, search.window).min(self.grouped);
         if past > at {
             return Ok(past);
         }
         let end = at.saturating_add(SMALLEST).min(self.grouped);
-        add_hits(boxes, &self.order, (at, end), window, found)?;
+        search.add_hits(&self.order, at..end, found)?;
         Ok(end)
-    }
-}
-
-// Adds to the empty list the indices of the boxes that meet the window, in their order.
-fn add_in_order(
-    boxes: &[WorldBox],
-    window: WorldBox,
-    found: &mut Vec<u32>,
-) -> Result<(), AllocError>
-    requires empty { found.old.items ≡ [] }
-    requires count { length boxes.now ≤ 2 ^ 32 }
-    ensures { OnOk result (IsAnswer window boxes.now found.new.items) }
-{
-    for index in 0..boxes.len() {
-        add_hit(boxes, index as u32, window, found)?;
-    }
-    Ok(())
-}
-
-// Adds the index if its box meets the window.
-fn add_hit(
-    boxes: &[WorldBox],
-    index: u32,
-    window: WorldBox,
-    found: &mut Vec<u32>,
-) -> Result<(), AllocError>
-    ensures { OnOk result (IsAnswerOfFirst window boxes.now index found.old.items → IsAnswerOfFirst window boxes.now (index + 1) found.new.items) }
-{
-    if is_hit(boxes, index, window) {
-        found.push(index)?;
-    }
-    Ok(())
-}
-
-// Adds the indices of a part of the order whose boxes meet the window: those from its start to before its end.
-fn add_hits(
-    boxes: &[WorldBox],
-    order: &[u32],
-    part: (usize, usize),
-    window: WorldBox,
-    found: &mut Vec<u32>,
-) -> Result<(), AllocError>
-    requires once { IsDistinct nat_eq order.now }
-    requires rising { part.0 ≤ part.1 }
-    requires bound { part.1 ≤ length order.now }
-    ensures { OnOk result (HasFound window boxes.now order.now part.0 found.old.items →
-        HasFound window boxes.now order.now part.1 found.new.items) }
-{
-    for at in part.0..part.1 {
-        let index = order[at];
-        if is_hit(boxes, index, window) {
-            found.push(index)?;
-        }
-    }
-    Ok(())
-}
-
-// Whether the box of that index meets the window.
-fn is_hit(boxes: &[WorldBox], index: u32, window: WorldBox) -> bool
-    ensures { IsTrue result ↔ MeetsAt window boxes.now index }
-{
-    match boxes.get(index as usize) {
-        Some(area) => window.meets(*area),
-        None => false,
     }
 }

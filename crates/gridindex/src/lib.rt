@@ -17,5 +17,6 @@ mod groups;
 pub mod laws;
 mod level;
 mod order;
+mod search;
 
 pub use grid::Grid;

@@ -1,74 +1,34 @@
 -- The box of a part is that of the boxes of its blocks.
-use Rattle.std.proofs.Common.{◌≡◌, ◌∙◌, ℕ, zero, suc, Bool, true, false, if◌then◌else◌, List, [], ◌∷◌, ◌+◌, ◌<◌, ◌≤◌, add-one, drop, fold, get_or, length, take, refl, sym, ap, arith}
+use Rattle.std.proofs.Common.{◌≡◌, ◌∙◌, ℕ, zero, suc, List, [], ◌∷◌, ◌+◌, ◌<◌, ◌≤◌, add-one, drop, fold, get_or, length, take, refl, sym, ap, arith}
 use Rattle.std.proofs.Math.Seq.{drop-cons}
-use Rattle.std.proofs.lemmas.Int.{ints}
-use Rattle.std.specs.Prelude.{int_lt}
+use Rattle.std.proofs.lemmas.Int.{clamps, ints}
+use Rattle.std.specs.Int.{int_max, int_min}
 use lib.IntN.{ℤ}
 use lib.Signed.{◌≤ℤ◌}
 use Rattle.geom.specs.World.{Area, Place}
 use Rattle.mapdefs.proofs.BlockBoxes.{IsWider, greater-both, less-both}
-use Rattle.mapdefs.specs.Blocks.{box_of_places, greater, less, nowhere, with_place}
+use Rattle.mapdefs.specs.Blocks.{box_of_places, nowhere, with_place}
 use Rattle.layers.specs.Boxes.{with_box}
 
 -- the lesser of two numbers is the first or the second
-less-left : (a b : ℤ) → a ≤ℤ b → less a b ≡ a
-less-left a b h = go (int_lt b a) refl
-  where
-    go : (t : Bool) → int_lt b a ≡ t → (if t then b else a) ≡ a
-    go true e = absurd (omega (arith, ints, h, e))
-    go false e = refl
+less-left : (a b : ℤ) → a ≤ℤ b → int_min a b ≡ a
+less-left a b h = omega (arith, ints, clamps, h)
 
-less-right : (a b : ℤ) → b ≤ℤ a → less a b ≡ b
-less-right a b h = go (int_lt b a) refl
-  where
-    go : (t : Bool) → int_lt b a ≡ t → (if t then b else a) ≡ b
-    go true e = refl
-    go false e = omega (arith, ints, h, e)
+less-assoc : (a b c : ℤ) → int_min a (int_min b c) ≡ int_min (int_min a b) c
+less-assoc a b c = omega (arith, ints, clamps)
 
-less-assoc : (a b c : ℤ) → less a (less b c) ≡ less (less a b) c
-less-assoc a b c = go (int_lt c b) refl (int_lt b a) refl
-  where
-    go : (t : Bool) → int_lt c b ≡ t → (u : Bool) → int_lt b a ≡ u → less a (less b c) ≡ less (less a b) c
-    go true e true f = ap (λ x. less a x) (less-right b c (omega (arith, ints, e))) ∙ (less-right a c (omega (arith, ints, e, f))
-        ∙ sym (ap (λ x. less x c) (less-right a b (omega (arith, ints, f))) ∙ less-right b c (omega (arith, ints, e))))
-    go true e false f = ap (λ x. less a x) (less-right b c (omega (arith, ints, e))) ∙ sym (ap (λ x. less x c) (less-left a b (omega (arith, ints, f))))
-    go false e true f = ap (λ x. less a x) (less-left b c (omega (arith, ints, e))) ∙ (less-right a b (omega (arith, ints, f))
-        ∙ sym (ap (λ x. less x c) (less-right a b (omega (arith, ints, f))) ∙ less-left b c (omega (arith, ints, e))))
-    go false e false f = ap (λ x. less a x) (less-left b c (omega (arith, ints, e))) ∙ (less-left a b (omega (arith, ints, f))
-        ∙ sym (ap (λ x. less x c) (less-left a b (omega (arith, ints, f))) ∙ less-left a c (omega (arith, ints, e, f))))
-
-less-twice : (a b : ℤ) → less (less a b) b ≡ less a b
-less-twice a b = sym (less-assoc a b b) ∙ ap (λ x. less a x) (less-left b b (omega (arith, ints)))
+less-twice : (a b : ℤ) → int_min (int_min a b) b ≡ int_min a b
+less-twice a b = omega (arith, ints, clamps)
 
 -- and so is the greater
-greater-left : (a b : ℤ) → b ≤ℤ a → greater a b ≡ a
-greater-left a b h = go (int_lt a b) refl
-  where
-    go : (t : Bool) → int_lt a b ≡ t → (if t then b else a) ≡ a
-    go true e = absurd (omega (arith, ints, h, e))
-    go false e = refl
+greater-left : (a b : ℤ) → b ≤ℤ a → int_max a b ≡ a
+greater-left a b h = omega (arith, ints, clamps, h)
 
-greater-right : (a b : ℤ) → a ≤ℤ b → greater a b ≡ b
-greater-right a b h = go (int_lt a b) refl
-  where
-    go : (t : Bool) → int_lt a b ≡ t → (if t then b else a) ≡ b
-    go true e = refl
-    go false e = omega (arith, ints, h, e)
+greater-assoc : (a b c : ℤ) → int_max a (int_max b c) ≡ int_max (int_max a b) c
+greater-assoc a b c = omega (arith, ints, clamps)
 
-greater-assoc : (a b c : ℤ) → greater a (greater b c) ≡ greater (greater a b) c
-greater-assoc a b c = go (int_lt b c) refl (int_lt a b) refl
-  where
-    go : (t : Bool) → int_lt b c ≡ t → (u : Bool) → int_lt a b ≡ u → greater a (greater b c) ≡ greater (greater a b) c
-    go true e true f = ap (λ x. greater a x) (greater-right b c (omega (arith, ints, e))) ∙ (greater-right a c (omega (arith, ints, e, f))
-        ∙ sym (ap (λ x. greater x c) (greater-right a b (omega (arith, ints, f))) ∙ greater-right b c (omega (arith, ints, e))))
-    go true e false f = ap (λ x. greater a x) (greater-right b c (omega (arith, ints, e))) ∙ sym (ap (λ x. greater x c) (greater-left a b (omega (arith, ints, f))))
-    go false e true f = ap (λ x. greater a x) (greater-left b c (omega (arith, ints, e))) ∙ (greater-right a b (omega (arith, ints, f))
-        ∙ sym (ap (λ x. greater x c) (greater-right a b (omega (arith, ints, f))) ∙ greater-left b c (omega (arith, ints, e))))
-    go false e false f = ap (λ x. greater a x) (greater-left b c (omega (arith, ints, e))) ∙ (greater-left a b (omega (arith, ints, f))
-        ∙ sym (ap (λ x. greater x c) (greater-left a b (omega (arith, ints, f))) ∙ greater-left a c (omega (arith, ints, e, f))))
-
-greater-twice : (a b : ℤ) → greater (greater a b) b ≡ greater a b
-greater-twice a b = sym (greater-assoc a b b) ∙ ap (λ x. greater a x) (greater-left b b (omega (arith, ints)))
+greater-twice : (a b : ℤ) → int_max (int_max a b) b ≡ int_max a b
+greater-twice a b = omega (arith, ints, clamps)
 
 -- a box is that of its four sides
 sides : (a b : Area) → a.minx ≡ b.minx → a.miny ≡ b.miny → a.maxx ≡ b.maxx → a.maxy ≡ b.maxy → a ≡ b
@@ -102,10 +62,10 @@ with-places a places wide =
     (sides (with_box a nowhere) a (less-left a.minx nowhere.minx wide.west) (less-left a.miny nowhere.miny wide.south) (greater-left a.maxx nowhere.maxx wide.east) (greater-left a.maxy nowhere.maxy wide.north))
 
 -- after the box of the block with which some places begin, the places from its last on are left
-pub block-joined : (a next box : Area) (places : List Place) → IsWider a nowhere → next ≡ with_box a box → box ≡ box_of_places (take 65 places) →
-    fold with_place next (drop 64 places) ≡ fold with_place a places
+pub block-joined : (a next box : Area) (places : List Place) → IsWider a nowhere → next ≡ with_box a box → box ≡ box_of_places (take 33 places) →
+    fold with_place next (drop 32 places) ≡ fold with_place a places
 block-joined a next box places wide e is =
-    ap (λ b. fold with_place b (drop 64 places)) (e ∙ (ap (λ b. with_box a b) is ∙ with-places a (take 65 places) wide)) ∙ overlap 64 a places
+    ap (λ b. fold with_place b (drop 32 places)) (e ∙ (ap (λ b. with_box a b) is ∙ with-places a (take 33 places) wide)) ∙ overlap 32 a places
 
 -- a box with another one is wider than it
 pub box-wider : (a b small : Area) → IsWider a small → IsWider (with_box a b) small

@@ -14,7 +14,8 @@ use Rattle.mapdefs.specs.declared.layer.LayerFields.{LayerFields}
 use Rattle.mapdefs.specs.declared.map.MapFields.{MapFields}
 use Rattle.mapdefs.specs.Near.{AreCandidates, AreCandidatesOf}
 use Rattle.layers.specs.Boxes.{box_of, boxes_of}
-use Rattle.layers.specs.Change.{IsFoundAt, and_then, found, found_points, is_of_points, layer_at, named, of_points}
+use Rattle.layers.specs.Change.{IsFoundAt, found, found_points, is_of_points, layer_at, named, of_points}
+use Rattle.mapdefs.specs.Outcome.{and_then}
 use Rattle.layers.specs.declared.fault.Refusal.{Refusal}
 use Rattle.layers.proofs.Enclosing.{box-has}
 

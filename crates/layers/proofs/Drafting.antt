@@ -9,7 +9,8 @@ use Rattle.mapdefs.specs.Name.{index_of, is_same_name}
 use Rattle.mapdefs.specs.declared.feature.FeatureFields.{FeatureFields}
 use Rattle.mapdefs.specs.declared.layer.LayerFields.{LayerFields}
 use Rattle.mapdefs.specs.declared.map.MapFields.{MapFields}
-use Rattle.layers.specs.Change.{IsFoundAt, and_then, clear, found, found_points, is_of_points, layer_at, named, of_points, switch}
+use Rattle.layers.specs.Change.{IsFoundAt, clear, found, found_points, is_of_points, layer_at, named, of_points, switch}
+use Rattle.mapdefs.specs.Outcome.{and_then}
 use Rattle.layers.specs.Draft.{extended_first, with_more}
 use Rattle.layers.specs.declared.fault.Refusal.{Refusal}
 use Rattle.layers.specs.declared.fault.Refusal.TheVariants.{NotPoints}

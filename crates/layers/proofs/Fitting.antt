@@ -2,9 +2,10 @@
 use Rattle.std.proofs.Common.{◌≡◌, ℕ, List, [], ◌∷◌, map, refl, ap, ◌∙◌}
 use Rattle.std.proofs.lemmas.Simd.{map-map}
 use Rattle.csvpoints.specs.Row.{column_of}
+use Rattle.csvpoints.specs.Rows.{value_in, with_values_in}
 use Rattle.mapdefs.specs.declared.feature.FeatureFields.{FeatureFields}
 use Rattle.layers.specs.Change.{fitted}
-use Rattle.layers.specs.Values.{columns_of, value_in, with_values_in}
+use Rattle.layers.specs.Values.{columns_of}
 
 -- each feature has its values in the columns of the items
 fits : (items columns : List (List ℕ)) (feature : FeatureFields) → with_values_in (columns_of columns items) feature ≡ fitted items columns feature

@@ -8,7 +8,8 @@ use Rattle.mapdefs.specs.LayerLimits.{HasValues}
 use Rattle.mapdefs.specs.declared.feature.FeatureFields.{FeatureFields}
 use Rattle.mapdefs.specs.declared.layer.LayerFields.{LayerFields}
 use Rattle.mapdefs.specs.declared.map.MapFields.{MapFields}
-use Rattle.layers.specs.Change.{and_then, found, switch}
+use Rattle.layers.specs.Change.{found, switch}
+use Rattle.mapdefs.specs.Outcome.{and_then}
 use Rattle.layers.specs.declared.fault.Refusal.{Refusal}
 use Rattle.layers.specs.Draft.{extended_first}
 use Rattle.layers.proofs.Drafting.{changed-behind, extended-nothing}

@@ -13,7 +13,8 @@ use Rattle.mapdefs.specs.declared.feature.FeatureFields.{FeatureFields}
 use Rattle.mapdefs.specs.declared.layer.LayerFields.{LayerFields}
 use Rattle.mapdefs.specs.declared.limits.TheConstants.{MAX_FEATURES}
 use Rattle.mapdefs.specs.declared.map.MapFields.{MapFields}
-use Rattle.layers.specs.Change.{and_then, append_at, appended, fitted, is_of_points, layer_at, of_points}
+use Rattle.layers.specs.Change.{append_at, appended, fitted, is_of_points, layer_at, of_points}
+use Rattle.mapdefs.specs.Outcome.{and_then}
 use Rattle.layers.specs.Draft.{with_more}
 use Rattle.layers.specs.declared.fault.Refusal.TheVariants.{Full, NotPoints}
 use Rattle.layers.proofs.Appending.{fitted-values}

@@ -1,37 +1,23 @@
 ghost use Rattle.std.specs.Prelude.{◌≡◌, ◌≤◌, ◌+◌, ◌++◌, map, length, IfOk, OnOk};
 ghost use Rattle.mapdefs.specs.declared.limits.TheConstants.{MAX_FEATURES};
-ghost use Rattle.mapdefs.specs.Blocks.{box_of_places, greater, less, nowhere};
+ghost use Rattle.mapdefs.specs.Blocks.{box_of_places, nowhere};
 ghost use Rattle.layers.specs.Boxes.{box_of, with_box};
 
 use crate::grids::SharedGrid;
 use geom::{Micro, WorldBox};
 use gridindex::Grid;
-use mapdefs::{BlockBox, Feature, FeatureFields, Part, Shared};
+use mapdefs::{BlockBox, Feature, FeatureFields, Part};
 use std::alloc::{AllocError, Global};
-
-// The lesser of two numbers.
-fn less(a: Micro, b: Micro) -> Micro
-    ensures { result ≡ less a b }
-{
-    if b < a { b } else { a }
-}
-
-// The greater of two numbers.
-fn greater(a: Micro, b: Micro) -> Micro
-    ensures { result ≡ greater a b }
-{
-    if a < b { b } else { a }
-}
 
 // The box that two boxes lie in.
 fn with_box(a: WorldBox, b: WorldBox) -> WorldBox
     ensures { result ≡ with_box a b }
 {
     WorldBox::new(
-        less(a.minx(), b.minx()),
-        less(a.miny(), b.miny()),
-        greater(a.maxx(), b.maxx()),
-        greater(a.maxy(), b.maxy()),
+        a.minx().min(b.minx()),
+        a.miny().min(b.miny()),
+        a.maxx().max(b.maxx()),
+        a.maxy().max(b.maxy()),
     )
 }
 
@@ -78,17 +64,17 @@ fn box_of(feature: &FeatureFields) -> WorldBox
 }
 
 // Appends the boxes of some features, in order, to others.
-fn add_boxes(boxes: &mut Vec<WorldBox>, features: &[Shared<Feature>]) -> Result<(), AllocError>
+fn add_boxes(boxes: &mut Vec<WorldBox>, features: &[Feature]) -> Result<(), AllocError>
     ensures { OnOk result (boxes.new.items ≡ boxes.old.items ++ map box_of features.now) }
 {
     for feature in features {
-        boxes.push(box_of(feature.get().get()))?;
+        boxes.push(box_of(feature.get()))?;
     }
     Ok(())
 }
 
 // The boxes of some features.
-fn boxes_of(alloc: Global, features: &[Shared<Feature>]) -> Result<Vec<WorldBox>, AllocError>
+fn boxes_of(alloc: Global, features: &[Feature]) -> Result<Vec<WorldBox>, AllocError>
     ensures { IfOk result (λ boxes. boxes.items ≡ map box_of features.now) }
 {
     let mut boxes = Vec::with_capacity(alloc, features.len())?;
@@ -97,7 +83,7 @@ fn boxes_of(alloc: Global, features: &[Shared<Feature>]) -> Result<Vec<WorldBox>
 }
 
 /// The grid of the boxes of some features.
-pub fn grid_of(alloc: Global, features: &[Shared<Feature>]) -> Result<SharedGrid, AllocError>
+pub fn grid_of(alloc: Global, features: &[Feature]) -> Result<SharedGrid, AllocError>
     requires { length features.now ≤ MAX_FEATURES }
     ensures { IfOk result (λ grid. grid ≡ map box_of features.now) }
 {
@@ -109,7 +95,7 @@ pub fn grid_of(alloc: Global, features: &[Shared<Feature>]) -> Result<SharedGrid
 pub fn extended_grid(
     alloc: Global,
     grid: &SharedGrid,
-    more: &[Shared<Feature>],
+    more: &[Feature],
 ) -> Result<SharedGrid, AllocError>
     requires { length grid.now + length more.now ≤ MAX_FEATURES }
     ensures { IfOk result (λ extended. extended ≡ grid.now ++ map box_of more.now) }

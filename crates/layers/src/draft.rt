@@ -8,7 +8,7 @@ use crate::fault::{ChangeError, Refusal};
 use crate::layers::{Layers, is_of_points};
 use crate::values::all_fitted;
 use csvpoints::{Table, TableFields};
-use mapdefs::{Feature, Items, Layer, MAX_FEATURES, Shared};
+use mapdefs::{Feature, Items, Layer, MAX_FEATURES};
 use std::alloc::{AllocError, Global};
 use std::marker::Model;
 
@@ -20,7 +20,7 @@ use std::marker::Model;
 pub struct Draft {
     alloc: Global,
     layers: Layers,
-    more: Vec<Items<Shared<Feature>>>,
+    more: Vec<Items<Feature>>,
 }
 
 impl Model for Draft {
@@ -42,7 +42,7 @@ impl Model for Draft {
 }
 
 // A list beside each layer, with no features yet.
-fn none_beside(alloc: Global, layers: &[Layer]) -> Result<Vec<Items<Shared<Feature>>>, AllocError>
+fn none_beside(alloc: Global, layers: &[Layer]) -> Result<Vec<Items<Feature>>, AllocError>
     ensures none { IfOk result (λ more. extended_first more.items layers.now ≡ layers.now) }
     ensures room { IfOk result (λ more. AllZip HasRoomFor more.items layers.now) }
 {
@@ -55,7 +55,7 @@ fn none_beside(alloc: Global, layers: &[Layer]) -> Result<Vec<Items<Shared<Featu
 }
 
 // The layers, with each list of features appended to the layer at its index.
-fn extended_all(layers: Layers, more: Vec<Items<Shared<Feature>>>) -> Result<Layers, AllocError>
+fn extended_all(layers: Layers, more: Vec<Items<Feature>>) -> Result<Layers, AllocError>
     requires { AllZip HasRoomFor more.items layers.layers }
     ensures { IfOk result (λ l. l ≡ with_more more.items layers) }
 {
@@ -158,7 +158,7 @@ impl Draft {
             self.alloc,
             layer.items.as_slice(),
             columns.as_slice(),
-            features.into_vec(),
+            features,
         )?;
         let waiting = &mut self.more[index];
         waiting.append(fitted)?;

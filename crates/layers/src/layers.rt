@@ -9,7 +9,7 @@ use crate::fault::{ChangeError, Refusal};
 use crate::grids::{SharedGrid, grids_of, share_all};
 use csvpoints::Table;
 use geom::WorldBox;
-use mapdefs::{Duplicate, Feature, Geometry, Items, Map, Near, Shared};
+use mapdefs::{Duplicate, Feature, Geometry, Items, Map, Near};
 use std::alloc::{AllocError, Global};
 use std::marker::Model;
 
@@ -137,11 +137,7 @@ impl Layers {
 
     // Appends features to those of the layer at an index. Where memory is refused nothing changes: the growths
     // come before the changes. Where there are no features the layer keeps its list and its grid.
-    pub(crate) fn extend_at(
-        &mut self,
-        index: usize,
-        more: Items<Shared<Feature>>,
-    ) -> Result<(), AllocError>
+    pub(crate) fn extend_at(&mut self, index: usize, more: Items<Feature>) -> Result<(), AllocError>
         requires { CanTakeAt more index self.old.layers }
         ensures ok { OnOk result (self.new ≡ with_layer index (extended more) self.old) }
         ensures err { OnErr result (self.new ≡ self.old) }

@@ -1,12 +1,12 @@
 -- The box of a block has all of the block's vertices.
-use Rattle.std.proofs.Common.{◌≡◌, ◌∙◌, ℕ, ◌*◌, ◌<◌, List, [], ◌∷◌, drop, fold, get_or, length, refl, subst, sym, ap, arith, if◌then◌else◌, Bool, true, false, take}
-use Rattle.std.proofs.lemmas.Int.{ints}
+use Rattle.std.proofs.Common.{◌≡◌, ◌∙◌, ℕ, ◌*◌, ◌<◌, List, [], ◌∷◌, drop, fold, get_or, length, subst, sym, ap, arith, take}
+use Rattle.std.proofs.lemmas.Int.{clamps, ints}
 use Rattle.std.specs.List.{AllByRecursion}
-use Rattle.std.specs.Prelude.{int_lt}
+use Rattle.std.specs.Int.{int_max, int_min}
 use lib.IntN.{ℤ}
 use lib.Signed.{◌≤ℤ◌}
 use Rattle.geom.specs.World.{Area, HasPlace, Place}
-use Rattle.mapdefs.specs.Blocks.{AreBlockBoxes, block_of, box_of_places, greater, less, nowhere, with_place}
+use Rattle.mapdefs.specs.Blocks.{AreBlockBoxes, block_of, box_of_places, nowhere, with_place}
 
 -- the sides of one box lie no further in than those of another
 pub record IsWider (big small : Area) : Type 0 where
@@ -15,19 +15,11 @@ pub record IsWider (big small : Area) : Type 0 where
   pub east : small.maxx ≤ℤ big.maxx
   pub north : small.maxy ≤ℤ big.maxy
 
-pub less-both : (a b : ℤ) → (less a b ≤ℤ a) × (less a b ≤ℤ b)
-less-both a b = go (int_lt b a) refl
-  where
-    go : (t : Bool) → int_lt b a ≡ t → ((if t then b else a) ≤ℤ a) × ((if t then b else a) ≤ℤ b)
-    go true e = (omega (arith, ints, e), omega (arith, ints))
-    go false e = (omega (arith, ints), omega (arith, ints, e))
+pub less-both : (a b : ℤ) → (int_min a b ≤ℤ a) × (int_min a b ≤ℤ b)
+less-both a b = (omega (arith, ints, clamps), omega (arith, ints, clamps))
 
-pub greater-both : (a b : ℤ) → (a ≤ℤ greater a b) × (b ≤ℤ greater a b)
-greater-both a b = go (int_lt a b) refl
-  where
-    go : (t : Bool) → int_lt a b ≡ t → (a ≤ℤ (if t then b else a)) × (b ≤ℤ (if t then b else a))
-    go true e = (omega (arith, ints, e), omega (arith, ints))
-    go false e = (omega (arith, ints), omega (arith, ints, e))
+pub greater-both : (a b : ℤ) → (a ≤ℤ int_max a b) × (b ≤ℤ int_max a b)
+greater-both a b = (omega (arith, ints, clamps), omega (arith, ints, clamps))
 
 -- a box that is joined with one more place is wider, and contains the place
 pub one-wider : (area : Area) (p : Place) → IsWider (with_place area p) area
@@ -79,8 +71,8 @@ many-have area (p ∷ places) = (
 
 -- where the block of an index begins with a vertex, its box has that one and all that follow in the block
 pub block-has : (vertices : List Place) (boxes : List Area) (k : ℕ) (area : Area) (from : Place) (rest : List Place) → AreBlockBoxes vertices boxes → k < length boxes →
-    area ≡ get_or boxes k area → from ∷ rest ≡ drop (64 * k) vertices → AllByRecursion (HasPlace area) (from ∷ take 64 rest)
+    area ≡ get_or boxes k area → from ∷ rest ≡ drop (32 * k) vertices → AllByRecursion (HasPlace area) (from ∷ take 32 rest)
 block-has vertices boxes k area from rest are below is e =
-    let block : from ∷ take 64 rest ≡ block_of vertices k = ap (take 65) e in
-    let box : area ≡ box_of_places (from ∷ take 64 rest) = is ∙ are.each k area below ∙ ap box_of_places (sym block) in
-    subst (λ a. AllByRecursion (HasPlace a) (from ∷ take 64 rest)) (sym box) (many-have nowhere (from ∷ take 64 rest))
+    let block : from ∷ take 32 rest ≡ block_of vertices k = ap (take 33) e in
+    let box : area ≡ box_of_places (from ∷ take 32 rest) = is ∙ are.each k area below ∙ ap box_of_places (sym block) in
+    subst (λ a. AllByRecursion (HasPlace a) (from ∷ take 32 rest)) (sym box) (many-have nowhere (from ∷ take 32 rest))

@@ -1,20 +1,13 @@
 -- Blocks of a part's vertices, and the box of each (docs/developers/WALKS.md, "Blocks of vertices").
-use Rattle.std.specs.Prelude.{◌≡◌, ℕ, ◌+◌, ◌-◌, ◌*◌, ◌<◌, if◌then◌else◌, ℤ, pos, neg_ℤ, List, length, take, drop, fold, int_lt, slice_index_or}
-use Rattle.std.specs.Int.{div_ceil}
+use Rattle.std.specs.Prelude.{◌≡◌, ℕ, ◌+◌, ◌-◌, ◌*◌, ◌<◌, pos, neg_ℤ, List, length, take, drop, fold, slice_index_or}
+use Rattle.std.specs.Int.{div_ceil, int_max, int_min}
 use Rattle.geom.specs.declared.micro.TheConstants.{COORDINATE_LIMIT}
 use Rattle.geom.specs.World.{Area, Place}
 use Rattle.mapdefs.specs.declared.block_box.TheConstants.{BLOCK_EDGES}
 
--- the lesser and the greater of two numbers
-abbrev pub less : ℤ → ℤ → ℤ
-less a b = if int_lt b a then b else a
-
-abbrev pub greater : ℤ → ℤ → ℤ
-greater a b = if int_lt a b then b else a
-
 -- the box that a box and a place lie in
 abbrev pub with_place : Area → Place → Area
-with_place area p = record { minx = less area.minx p.x; miny = less area.miny p.y; maxx = greater area.maxx p.x; maxy = greater area.maxy p.y }
+with_place area p = record { minx = int_min area.minx p.x; miny = int_min area.miny p.y; maxx = int_max area.maxx p.x; maxy = int_max area.maxy p.y }
 
 -- the box of no places: its west side is east of all places, and so on
 abbrev pub nowhere : Area

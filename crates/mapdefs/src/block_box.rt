@@ -1,12 +1,12 @@
 ghost use Rattle.std.specs.Prelude.{◌≡◌, fold};
 ghost use Rattle.geom.specs.World.{Place};
-ghost use Rattle.mapdefs.specs.Blocks.{box_of_places, greater, less, nowhere, with_place};
+ghost use Rattle.mapdefs.specs.Blocks.{box_of_places, nowhere, with_place};
 
 use geom::{Coordinate, GREATEST_COORDINATE, LEAST_COORDINATE, Micro, World};
 use std::marker::Model;
 
 /// How many successive edges of a part share a box.
-pub const BLOCK_EDGES: usize = 64;
+pub const BLOCK_EDGES: usize = 32;
 
 /// The box of a block of vertices: its sides are coordinates.
 #[derive(Clone, Copy)]
@@ -59,10 +59,10 @@ impl BlockBox {
     {
         let (x, y) = (place.x(), place.y());
         BlockBox {
-            minx: less(self.minx, x),
-            miny: less(self.miny, y),
-            maxx: greater(self.maxx, x),
-            maxy: greater(self.maxy, y),
+            minx: self.minx.min(x),
+            miny: self.miny.min(y),
+            maxx: self.maxx.max(x),
+            maxy: self.maxy.max(y),
         }
     }
 
@@ -92,27 +92,5 @@ impl BlockBox {
         ensures { result ≡ self.maxy }
     {
         self.maxy
-    }
-}
-
-// The lesser of two coordinates.
-fn less(a: Coordinate, b: Coordinate) -> Coordinate
-    ensures { result ≡ less a b }
-{
-    if b.get().millionths() < a.get().millionths() {
-        b
-    } else {
-        a
-    }
-}
-
-// The greater of two coordinates.
-fn greater(a: Coordinate, b: Coordinate) -> Coordinate
-    ensures { result ≡ greater a b }
-{
-    if a.get().millionths() < b.get().millionths() {
-        b
-    } else {
-        a
     }
 }

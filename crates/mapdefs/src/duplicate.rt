@@ -1,6 +1,8 @@
 ghost use Rattle.std.specs.Prelude.{◌≡◌, IfOk};
 
-use crate::{Items, Layer, LayerFields, Map, MapFields, Shared, SharedItems, Text};
+use crate::{
+    Feature, FeatureFields, Items, Layer, LayerFields, Map, MapFields, Shared, SharedItems, Text,
+};
 use std::alloc::{AllocError, Global};
 
 /// Values that can be copied to equal ones.
@@ -46,6 +48,18 @@ impl<T: Duplicate> Duplicate for Items<T> {
             made.push(item.duplicate(alloc)?)?;
         }
         Ok(Items::of(made))
+    }
+}
+
+/// Whatever takes memory is shared.
+impl Duplicate for Feature {
+    fn duplicate(&self, alloc: Global) -> Result<Feature, AllocError> {
+        let fields = self.get();
+        Ok(Feature::new(FeatureFields {
+            parts: fields.parts.share()?,
+            text: fields.text.duplicate(alloc)?,
+            values: fields.values.share()?,
+        }))
     }
 }
 

@@ -3,7 +3,7 @@ ghost use Rattle.mapdefs.specs.Change.{changed_at, switched, extended, emptied, 
 ghost use Rattle.mapdefs.specs.LayerLimits.{HasValues};
 ghost use Rattle.mapdefs.specs.declared.limits.TheConstants.{MAX_FEATURES};
 
-use crate::{Class, Feature, Items, Limited, Limits, Shared, SharedItems, Text};
+use crate::{Class, Feature, Items, Limited, Limits, SharedItems, Text};
 use geom::Micro;
 use std::alloc::{AllocError, Global};
 
@@ -40,7 +40,7 @@ pub struct LayerFields {
     pub min: Option<Micro>,
     pub max: Option<Micro>,
     pub classes: SharedItems<Class>,
-    pub features: SharedItems<Shared<Feature>>,
+    pub features: SharedItems<Feature>,
 }
 
 impl Limits for LayerFields {
@@ -62,11 +62,7 @@ impl Layer {
     }
 
     /// Adds features after those that it has. Where memory is refused nothing changes.
-    pub fn append(
-        &mut self,
-        alloc: Global,
-        features: Items<Shared<Feature>>,
-    ) -> Result<(), AllocError>
+    pub fn append(&mut self, alloc: Global, features: Items<Feature>) -> Result<(), AllocError>
         requires room { length self.old.features + length features ≤ MAX_FEATURES }
         requires values { All (HasValues (length self.old.items)) features }
         ensures ok { OnOk result (self.new ≡ extended features self.old) }
@@ -98,7 +94,7 @@ pub(crate) fn append_at(
     alloc: Global,
     layers: &mut Items<Layer>,
     index: usize,
-    features: Items<Shared<Feature>>,
+    features: Items<Feature>,
 ) -> Result<(), AllocError>
     requires { CanTakeAt features index layers.old }
     ensures ok { OnOk result (layers.new ≡ changed_at index (extended features) layers.old) }

@@ -4,8 +4,8 @@
 //! each reader may rely on it (`Limited::get`, clause `limits`). `Map::find` finds the first layer
 //! with a name, and `Picture::at` reads the pixel of a column and a row.
 //!
-//! In a clause a map is a plain nested record. `Items` is a list, `Text` a list of bytes, `Boxed` the value
-//! in it, and `Map`, `Layer` and the others are their fields.
+//! In a clause a map is a plain nested record. `Items`, `PartList` and `Values` are lists, `Text` a list of bytes,
+//! `Boxed` and `Shared` the value in them, and `Map`, `Layer` and the others are their fields.
 //!
 //! Terms: a *layer* holds *features* of one *kind*. Its *classes* are tried in order, and the first that is
 //! visible and whose *rule* holds is the feature's. The *styles* of the class say how the feature is painted,
@@ -15,6 +15,7 @@
 mod all_features;
 mod block_box;
 mod boxed;
+mod chain;
 mod class;
 mod colour;
 mod duplicate;
@@ -29,6 +30,7 @@ mod limits;
 mod map;
 mod near;
 mod part;
+mod part_list;
 mod picture;
 mod pixel_colour;
 mod shared;
@@ -36,6 +38,8 @@ mod shared_items;
 mod style;
 mod symbol;
 mod text;
+mod texts;
+mod values;
 
 pub use all_features::AllFeatures;
 pub use block_box::{BLOCK_EDGES, BlockBox};
@@ -58,6 +62,7 @@ pub use limits::{
 pub use map::{Map, MapFields};
 pub use near::Near;
 pub use part::{Part, split_block};
+pub use part_list::PartList;
 pub use picture::{Picture, PictureFields};
 pub use pixel_colour::PixelColour;
 pub use shared::Shared;
@@ -65,3 +70,5 @@ pub use shared_items::SharedItems;
 pub use style::{Style, StyleFields};
 pub use symbol::{Pixmap, PixmapFields, Symbol};
 pub use text::Text;
+pub use texts::Texts;
+pub use values::Values;

@@ -65,7 +65,7 @@ impl Map {
         &mut self,
         alloc: Global,
         index: usize,
-        features: Items<Shared<Feature>>,
+        features: Items<Feature>,
     ) -> Result<(), AllocError>
         requires { CanTakeAt features index self.old.layers }
         ensures ok { OnOk result (self.new ≡ with_layer index (extended features) self.old) }

@@ -22,7 +22,8 @@ use Rattle.mapwords.specs.declared.fault.ParseFault.{ParseFault}
 use Rattle.mapwords.specs.declared.fault.ParseFault.TheVariants.{At}
 use Rattle.maptree.specs.Answer.{moved, goes_on}
 use Rattle.mapfaults.specs.Explained.{Standing, IsOpenAfter, IsAt, IsRefusal, IsStop, IsWalked, IsFinding, begun, fault_in, standing, stepped, stepped_in, walked}
-use Rattle.mapwords.specs.Fault.{and_then, missing, lexical, fault_of}
+use Rattle.mapwords.specs.Fault.{missing, lexical, fault_of}
+use Rattle.mapdefs.specs.Outcome.{and_then}
 use Rattle.mapwords.specs.Keyword.{is_at}
 use Rattle.mapfaults.specs.Opening.{OpeningValue, opened}
 use Rattle.maptree.specs.Pass.{alone}

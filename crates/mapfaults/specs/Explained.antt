@@ -16,7 +16,8 @@ use Rattle.mapwords.specs.declared.keyword.Keyword.TheVariants as keyword
 use Rattle.maptree.specs.declared.tree.MapTree.{MapTree}
 use Rattle.maptree.specs.Answer.{goes_on}
 use Rattle.maptree.specs.Draft.{fresh}
-use Rattle.mapwords.specs.Fault.{refused, and_then}
+use Rattle.mapwords.specs.Fault.{refused}
+use Rattle.mapdefs.specs.Outcome.{and_then}
 use Rattle.mapwords.specs.Keyword.{is_at}
 use Rattle.mapfaults.specs.Opening.{OpeningValue, opening, opened}
 use Rattle.maptree.specs.Source.{tree_of}

@@ -1,5 +1,5 @@
 use crate::results::{add_file, fault_text, with_used_files, written};
-use mapdefs::{FeatureFields, Layer, Map};
+use mapdefs::{FeatureFields, Layer, MAX_ITEMS, Map};
 use mapparse::{Files, parse};
 use std::alloc::{AllocError, Global};
 use test_tables::{TableFault, check_rows};
@@ -35,8 +35,11 @@ fn write_feature(text: &mut String, feature: &FeatureFields) -> Result<(), Alloc
         }
     }
     text.push(')')?;
-    for value in feature.values.as_slice() {
-        write!(text, "{},", value.as_str())?;
+    for index in 0..MAX_ITEMS {
+        let Some(value) = feature.values.get(index) else {
+            return Ok(());
+        };
+        write!(text, "{value},")?;
     }
     Ok(())
 }
@@ -49,7 +52,7 @@ fn write_layer(text: &mut String, layer: &Layer) -> Result<(), AllocError> {
     }
     text.push(']')?;
     for feature in layer.features.as_slice() {
-        write_feature(text, feature.get().get())?;
+        write_feature(text, feature.get())?;
     }
     Ok(())
 }

@@ -19,7 +19,7 @@ fn add_layer(sums: &mut Totals, layer: &Layer) {
         sums.styles = sums.styles.saturating_add(class.get().styles.len());
     }
     for feature in layer.features.as_slice() {
-        for part in feature.get().get().parts.as_slice() {
+        for part in feature.get().parts.as_slice() {
             sums.vertices = sums.vertices.saturating_add(part.len());
         }
     }

@@ -1,6 +1,6 @@
 use crate::results::fault_text;
 use geom::Micro;
-use mapdefs::{Class, Feature, Label, Layer, Map, Rgb, Rule, Style, Text};
+use mapdefs::{Class, Feature, Label, Layer, MAX_ITEMS, Map, Rgb, Rule, Style, Text, Values};
 use mapparse::{Files, parse};
 use std::alloc::{AllocError, Global};
 
@@ -23,6 +23,16 @@ fn write_style(text: &mut String, style: &Style) -> Result<(), AllocError> {
 fn write_texts(text: &mut String, texts: &[Text]) -> Result<(), AllocError> {
     for one in texts {
         write!(text, " [{}]", one.as_str())?;
+    }
+    Ok(())
+}
+
+fn write_values(text: &mut String, values: &Values) -> Result<(), AllocError> {
+    for index in 0..MAX_ITEMS {
+        let Some(value) = values.get(index) else {
+            return Ok(());
+        };
+        write!(text, " [{value}]")?;
     }
     Ok(())
 }
@@ -81,8 +91,12 @@ fn write_class(text: &mut String, class: &Class) -> Result<(), AllocError> {
 // A part is its vertices in millionths of a degree.
 fn write_feature(text: &mut String, feature: &Feature) -> Result<(), AllocError> {
     let feature = feature.get();
-    write!(text, "feature {}", text_or_dash(&feature.text))?;
-    write_texts(text, feature.values.as_slice())?;
+    let own = match &feature.text {
+        Some(own) => own.get().as_str(),
+        None => "-",
+    };
+    write!(text, "feature {own}")?;
+    write_values(text, &feature.values)?;
     text.push('\n')?;
     for part in feature.parts.as_slice() {
         text.push_str("part")?;
@@ -125,7 +139,7 @@ fn write_layer(text: &mut String, layer: &Layer) -> Result<(), AllocError> {
         write_class(text, class)?;
     }
     for feature in layer.features.as_slice() {
-        write_feature(text, feature.get())?;
+        write_feature(text, feature)?;
     }
     Ok(())
 }

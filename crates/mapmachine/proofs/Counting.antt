@@ -1,6 +1,7 @@
 -- The sequence counts the batches that were published.
 use Rattle.std.proofs.Common.{◌≡◌, ℕ, ◌+◌, ◌-◌, ◌^◌, ◌==◌, Bool, true, false, List, [], ◌∷◌, length, Result, Ok, Err, nat_lt, refl, arith}
-use Rattle.batches.specs.Batch.{State, and_then, batch, batched}
+use Rattle.batches.specs.Batch.{State, batch, batched}
+use Rattle.mapdefs.specs.Outcome.{and_then}
 use Rattle.batches.specs.declared.fault.BatchFault.{BatchFault}
 use Rattle.batches.specs.declared.fault.BatchKind.TheVariants.{TooLong, SequenceEnd}
 use Rattle.batches.specs.declared.fault.TheConstants.{MAX_BATCH}

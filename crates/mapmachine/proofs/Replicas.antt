@@ -12,7 +12,8 @@ use Rattle.operations.specs.declared.mime.Mime.TheVariants as mime
 use Rattle.wmsquery.specs.Meaning.{IsMeaning, MeaningIsOne}
 use Rattle.wmsquery.specs.Pairs.{given, names_of, pairs_of, texts_of}
 use Rattle.wmsquery.specs.Query.{layer_names}
-use Rattle.wmsquery.specs.Values.{and_then, asked, asked_of, defined, indices_of, is_among, is_queryable, listed}
+use Rattle.wmsquery.specs.Values.{asked, asked_of, defined, indices_of, is_among, is_queryable, listed}
+use Rattle.mapdefs.specs.Outcome.{and_then}
 use Rattle.wmsquery.specs.declared.fault.Code.{Code}
 use Rattle.wmsquery.specs.declared.fault.Code.TheVariants as code
 use Rattle.wmsquery.specs.declared.fault.Parameter.TheVariants as parameter

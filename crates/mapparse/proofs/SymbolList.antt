@@ -5,7 +5,7 @@ use Rattle.std.proofs.lemmas.List.{append_assoc}
 use Rattle.mapdefs.specs.declared.symbol.Symbol.{Symbol}
 use Rattle.mapwords.specs.declared.fault.Fault.{Fault}
 use Rattle.maptree.specs.declared.tree.SymbolTree.{SymbolTree}
-use Rattle.mapwords.specs.Fault.{and_then}
+use Rattle.mapdefs.specs.Outcome.{and_then}
 use Rattle.mapparse.specs.declared.files.FileBytes.{FileBytes}
 use Rattle.mapparse.specs.Symbols.{pixmap_in, symbols_of}
 

@@ -5,7 +5,7 @@ use Rattle.std.proofs.lemmas.List.{append_assoc, take_more}
 use Rattle.csvpoints.specs.declared.table.TableFields.{TableFields}
 use Rattle.mapwords.specs.declared.fault.Fault.{Fault}
 use Rattle.maptree.specs.declared.tree.LayerTree.{LayerTree}
-use Rattle.mapwords.specs.Fault.{and_then}
+use Rattle.mapdefs.specs.Outcome.{and_then}
 use Rattle.mapparse.specs.declared.files.FileBytes.{FileBytes}
 use Rattle.mapdefs.specs.declared.limits.TheConstants.{MAX_FEATURES}
 use Rattle.mapparse.specs.Tables.{table_given, tables_of, rows_of, HasRoom, HaveRoom}

@@ -18,7 +18,7 @@ use Rattle.mapdefs.specs.declared.map.MapFields.{MapFields}
 use Rattle.mapdefs.specs.declared.style.StyleFields.{StyleFields}
 use Rattle.mapdefs.specs.declared.symbol.Symbol.{Symbol}
 use Rattle.mapwords.specs.declared.fault.Fault.{Fault}
-use Rattle.mapwords.specs.Fault.{and_then}
+use Rattle.mapdefs.specs.Outcome.{and_then}
 use Rattle.mapwords.specs.declared.table.TextKeyword.{TextKeyword}
 use Rattle.mapwords.specs.declared.table.TextKeyword.TheVariants.{Name, ClassItem, LabelItem, Template, WmsTitle, OwsTitle, WmsOnlineResource, OwsOnlineResource}
 use Rattle.mapwords.specs.declared.table.CountKeyword.TheVariants.{Width, Size, Tolerance, Priority, Buffer, MinDistance}

@@ -3,7 +3,7 @@ use Rattle.std.specs.Prelude.{ℕ, List, Result, Ok}
 use Rattle.maplex.specs.Lexed.{lexed}
 use Rattle.mapdefs.specs.declared.map.MapFields.{MapFields}
 use Rattle.mapwords.specs.declared.fault.Fault.{Fault}
-use Rattle.mapwords.specs.Fault.{and_then}
+use Rattle.mapdefs.specs.Outcome.{and_then}
 use Rattle.maptree.specs.Source.{tree_of}
 use Rattle.mapparse.specs.Mapping.{map_of}
 use Rattle.mapparse.specs.Uses.{uses_of}

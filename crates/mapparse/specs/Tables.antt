@@ -8,7 +8,7 @@ use Rattle.csvpoints.specs.declared.table.TableFields.{TableFields}
 use Rattle.mapdefs.specs.declared.feature.FeatureFields.{FeatureFields}
 use Rattle.mapdefs.specs.declared.limits.TheConstants.{MAX_FEATURES}
 use Rattle.mapwords.specs.declared.fault.Fault.{Fault}
-use Rattle.mapwords.specs.Fault.{and_then}
+use Rattle.mapdefs.specs.Outcome.{and_then}
 use Rattle.maptree.specs.declared.tree.LayerTree.{LayerTree}
 use Rattle.mapwords.specs.declared.named.Named.{Named}
 use Rattle.mapwords.specs.declared.table.TextKeyword.TheVariants.{CsvX, CsvY}

@@ -6,7 +6,7 @@ use Rattle.maplex.specs.Token.{TokenValue}
 use Rattle.mapwords.specs.declared.role.Block.{Block}
 use Rattle.mapwords.specs.declared.fault.Fault.{Fault}
 use Rattle.maptree.specs.Entries.{Entries, Nothing, with_block}
-use Rattle.mapwords.specs.Fault.{and_then}
+use Rattle.mapdefs.specs.Outcome.{and_then}
 use Rattle.mapwords.specs.Given.{value_in}
 use Rattle.maptree.specs.Meaning.{latitude_in, block_in, CountIsEnough}
 use Rattle.maptree.specs.Says.{Saying, Ends, Opens, Takes, Longitude, Skips, says}

@@ -14,7 +14,8 @@ use Rattle.maptree.specs.declared.draft.Drafts.{Drafts}
 use Rattle.mapwords.specs.declared.fault.Fault.{Fault}
 use Rattle.mapwords.specs.declared.fault.ParseKind.TheVariants.{UnknownWord}
 use Rattle.mapwords.specs.declared.keyword.Keyword.TheVariants as keyword
-use Rattle.mapwords.specs.Fault.{and_then, lexical, refused}
+use Rattle.mapwords.specs.Fault.{lexical, refused}
+use Rattle.mapdefs.specs.Outcome.{and_then}
 use Rattle.mapwords.specs.Keyword.{is_at}
 use Rattle.maptree.specs.Draft.{fresh}
 use Rattle.maptree.specs.Step.{read_token}

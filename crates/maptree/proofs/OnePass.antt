@@ -27,7 +27,8 @@ use Rattle.maptree.specs.Draft.{noted, with_value}
 use Rattle.maptree.specs.Draft as draft
 use Rattle.maptree.specs.End.{ends}
 use Rattle.maptree.specs.Entries.{Entries, Nothing, Said, Vertex, has_effect, with_said, with_block, vertex_count}
-use Rattle.mapwords.specs.Fault.{fault_of, refused, and_then}
+use Rattle.mapwords.specs.Fault.{fault_of, refused}
+use Rattle.mapdefs.specs.Outcome.{and_then}
 use Rattle.mapwords.specs.Keyword.{keyword_at, is_at, is_end}
 use Rattle.maptree.specs.Meaning as meaning
 use Rattle.mapwords.specs.Given.{Given, value_in}

@@ -27,7 +27,7 @@ use Rattle.maptree.specs.End.{layer_with, finished_layer, symbol_with, ends}
 use Rattle.maptree.specs.End as end
 use Rattle.maptree.specs.Symbol.{symbol_fault, map_fault}
 use Rattle.maptree.specs.Entries.{Entries, Nothing, Inside, with_block, values, blocks, last_block, vertices}
-use Rattle.mapwords.specs.Fault.{and_then}
+use Rattle.mapdefs.specs.Outcome.{and_then}
 use Rattle.maptree.specs.Name.{is_taken}
 use Rattle.maptree.specs.Says.{layer_end_fault, closing_fault, is_full}
 use Rattle.mapwords.specs.Table.{map_role, web_role, symbol_role, layer_role, class_role, style_role, label_role, feature_role, skipped_role, skipped_label_role, end_role, role_of}

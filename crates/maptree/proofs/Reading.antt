@@ -8,7 +8,7 @@ use Rattle.maptree.specs.declared.context.Move.{Move}
 use Rattle.maptree.specs.declared.context.Move.TheVariants.{GoesOn, Enters, Leaves}
 use Rattle.maptree.specs.declared.draft.Drafts.{Drafts}
 use Rattle.mapwords.specs.declared.fault.Fault.{Fault}
-use Rattle.mapwords.specs.Fault.{and_then}
+use Rattle.mapdefs.specs.Outcome.{and_then}
 use Rattle.maptree.specs.Step.{read_token}
 use Rattle.maptree.specs.Pass.{reads}
 

@@ -43,7 +43,7 @@ use Rattle.mapdefs.specs.declared.class.Rule.TheVariants.{OneOf}
 use Rattle.mapwords.specs.Count.{number_in, read_count}
 use Rattle.mapwords.specs.Table.{least_of, most_of}
 use Rattle.maptree.specs.Entries.{Entries, Nothing, Said, Vertex, Inside, with_said, vertex_count}
-use Rattle.mapwords.specs.Fault.{and_then}
+use Rattle.mapdefs.specs.Outcome.{and_then}
 use Rattle.mapwords.specs.Keyword.{spelling, is_spelt}
 use Rattle.mapwords.specs.Given.{value_in}
 use Rattle.maptree.specs.Meaning.{block_in, alone}

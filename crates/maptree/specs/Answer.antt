@@ -14,7 +14,8 @@ use Rattle.mapwords.specs.declared.fault.ParseFault.TheVariants.{At, NoMemory}
 use Rattle.maptree.specs.declared.tree.MapTree.{MapTree}
 use Rattle.maptree.specs.declared.draft.Drafts.{Drafts}
 use Rattle.maptree.specs.declared.reader.Reader.{Reader}
-use Rattle.mapwords.specs.Fault.{and_then, lexical}
+use Rattle.mapwords.specs.Fault.{lexical}
+use Rattle.mapdefs.specs.Outcome.{and_then}
 use Rattle.maptree.specs.Pass.{reads, alone}
 
 -- the contexts that are open after a token of a context inside others, the innermost first

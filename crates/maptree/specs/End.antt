@@ -14,7 +14,8 @@ use Rattle.maptree.specs.declared.tree.LayerBody.{LayerBody}
 use Rattle.maptree.specs.declared.tree.LayerTree.{LayerTree}
 use Rattle.maptree.specs.declared.tree.SymbolTree.{SymbolTree}
 use Rattle.maptree.specs.declared.draft.Drafts.{Drafts}
-use Rattle.mapwords.specs.Fault.{refused, and_then}
+use Rattle.mapwords.specs.Fault.{refused}
+use Rattle.mapdefs.specs.Outcome.{and_then}
 use Rattle.maptree.specs.Data.{table_fault, with_table}
 use Rattle.maptree.specs.Parts.{with_part}
 use Rattle.maptree.specs.Symbol.{map_fault}

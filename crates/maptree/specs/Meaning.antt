@@ -11,7 +11,8 @@ use Rattle.mapwords.specs.declared.keyword.Keyword.TheVariants as keyword
 use Rattle.mapwords.specs.declared.fault.Fault.{Fault}
 use Rattle.mapwords.specs.declared.fault.ParseKind.TheVariants.{UnknownWord, WrongValue, MissingValue}
 use Rattle.maptree.specs.Entries.{Entries, Nothing, Vertex, with_said, with_block}
-use Rattle.mapwords.specs.Fault.{fault_of, refused, lexical, missing, and_then}
+use Rattle.mapwords.specs.Fault.{fault_of, refused, lexical, missing}
+use Rattle.mapdefs.specs.Outcome.{and_then}
 use Rattle.mapwords.specs.Keyword.{is_at, is_end}
 use Rattle.maptree.specs.Says.{says, Ends, Opens, Takes, Longitude, Skips}
 use Rattle.mapwords.specs.Given.{value_in}

@@ -14,7 +14,8 @@ use Rattle.mapwords.specs.declared.fault.Fault.{Fault}
 use Rattle.mapwords.specs.declared.fault.ParseKind.TheVariants.{UnknownWord}
 use Rattle.maptree.specs.declared.tree.MapTree.{MapTree}
 use Rattle.maptree.specs.declared.draft.Drafts.{Drafts}
-use Rattle.mapwords.specs.Fault.{refused, lexical, missing, and_then}
+use Rattle.mapwords.specs.Fault.{refused, lexical, missing}
+use Rattle.mapdefs.specs.Outcome.{and_then}
 use Rattle.mapwords.specs.Keyword.{is_at}
 use Rattle.maptree.specs.Draft.{fresh}
 use Rattle.maptree.specs.Step.{read_token}

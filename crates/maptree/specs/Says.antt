@@ -16,7 +16,8 @@ use Rattle.mapwords.specs.declared.fault.ParseKind.TheVariants.{UnknownWord, Wro
 use Rattle.maptree.specs.declared.tree.LayerTree.{LayerTree}
 use Rattle.maptree.specs.Data.{table_fault}
 use Rattle.maptree.specs.Entries.{Entries, values, blocks, last_block, vertices, vertex_count}
-use Rattle.mapwords.specs.Fault.{fault_of, refused, and_then}
+use Rattle.mapwords.specs.Fault.{fault_of, refused}
+use Rattle.mapdefs.specs.Outcome.{and_then}
 use Rattle.maptree.specs.Name.{is_taken}
 use Rattle.mapwords.specs.Setting.{pair_expects}
 use Rattle.mapwords.specs.Keyword.{keyword_at, is_end}

@@ -3,7 +3,7 @@ use Rattle.std.specs.Prelude.{Result, Ok}
 use Rattle.maplex.specs.Lexed.{Lexed}
 use Rattle.mapwords.specs.declared.fault.Fault.{Fault}
 use Rattle.maptree.specs.declared.tree.MapTree.{MapTree}
-use Rattle.mapwords.specs.Fault.{and_then}
+use Rattle.mapdefs.specs.Outcome.{and_then}
 use Rattle.maptree.specs.Meaning.{meaning}
 use Rattle.maptree.specs.Tree.{map_tree}
 

@@ -17,7 +17,8 @@ use Rattle.mapwords.specs.declared.value.ValueStep.TheVariants.{More, Whole}
 use Rattle.maptree.specs.declared.draft.Drafts.{Drafts}
 use Rattle.mapwords.specs.declared.fault.Fault.{Fault}
 use Rattle.mapwords.specs.declared.fault.ParseKind.TheVariants.{UnknownWord, WrongValue, MissingValue, Limit}
-use Rattle.mapwords.specs.Fault.{fault_of, refused, and_then}
+use Rattle.mapwords.specs.Fault.{fault_of, refused}
+use Rattle.mapdefs.specs.Outcome.{and_then}
 use Rattle.mapwords.specs.Keyword.{keyword_at, is_end}
 use Rattle.mapwords.specs.Setting.{pair_expects}
 use Rattle.mapwords.specs.Table.{role_of}

@@ -40,11 +40,6 @@ abbrev pub missing : Tail → Fault
 missing (Ends line) = record { line = line; kind = MissingEnd }
 missing (Breaks f) = lexical f
 
--- reading goes on with what was read, and the first fault is the fault of all
-abbrev pub and_then : {A B : Type 0} → Result A Fault → (A → Result B Fault) → Result B Fault
-and_then (Ok a) next = next a
-and_then (Err f) next = Err f
-
 -- the error is the fault of this reading, or memory was refused
 abbrev pub IsFaultOf : {A : Type 0} → Result A Fault → ParseFault → Type 0
 IsFaultOf reading (At line kind) = reading ≡ Err (record { line = line; kind = kind })

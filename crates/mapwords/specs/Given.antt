@@ -11,7 +11,8 @@ use Rattle.mapwords.specs.declared.value.Value.TheVariants as value
 use Rattle.mapwords.specs.declared.value.ValueStep.TheVariants.{More, Whole}
 use Rattle.mapwords.specs.declared.fault.Fault.{Fault}
 use Rattle.mapwords.specs.declared.fault.ParseKind.TheVariants.{MissingValue}
-use Rattle.mapwords.specs.Fault.{refused, missing, and_then}
+use Rattle.mapwords.specs.Fault.{refused, missing}
+use Rattle.mapdefs.specs.Outcome.{and_then}
 use Rattle.mapwords.specs.Keyword.{is_end}
 use Rattle.mapwords.specs.Value.{is_value, value_step}
 

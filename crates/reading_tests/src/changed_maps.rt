@@ -1,7 +1,9 @@
 ghost use Rattle.std.specs.Prelude.{◌≡◌, ◌∷◌, ◌<◌, ◌≤◌, [], length, All, IfOk, OnOk};
 ghost use Rattle.mapdefs.specs.LayerLimits.{HasValues};
 
-use mapdefs::{Duplicate, Feature, FeatureFields, Items, Layer, Map, Shared, Text};
+use mapdefs::{
+    Duplicate, Feature, FeatureFields, Items, Layer, Map, PartList, Shared, Text, Values,
+};
 use std::alloc::{AllocError, Global};
 use std::test::Fail;
 use test_maps::{layer_fields, map_fields, one_feature};
@@ -11,22 +13,22 @@ use test_tables::{TableFault, check_rows};
 fn feature(alloc: Global, text: &str) -> Result<Feature, AllocError>
     ensures { IfOk result (HasValues 0) }
 {
-    let text = Some(Text::from_str(alloc, text)?);
+    let text = Some(Shared::new(alloc, Text::from_str(alloc, text)?)?);
     Ok(Feature::new(FeatureFields {
-        parts: Items::new(alloc),
+        parts: PartList::empty(),
         text,
-        values: Items::new(alloc),
+        values: Values::none(),
     }))
 }
 
 // Two further features.
-fn more(alloc: Global) -> Result<Items<Shared<Feature>>, AllocError>
+fn more(alloc: Global) -> Result<Items<Feature>, AllocError>
     ensures count { IfOk result (λ features. length features ≡ 2) }
     ensures values { IfOk result (All (HasValues 0)) }
 {
     let mut features = Items::new(alloc);
-    features.push(Shared::new(alloc, feature(alloc, "second")?)?)?;
-    features.push(Shared::new(alloc, feature(alloc, "third")?)?)?;
+    features.push(feature(alloc, "second")?)?;
+    features.push(feature(alloc, "third")?)?;
     Ok(features)
 }
 
@@ -113,8 +115,8 @@ fn said(alloc: Global, map: &Map) -> Result<String, AllocError> {
         let layer = layer.get();
         write!(said, "{} {}", layer.name.as_str(), layer.on)?;
         for feature in layer.features.as_slice() {
-            let text = match &feature.get().get().text {
-                Some(text) => text.as_str(),
+            let text = match &feature.get().text {
+                Some(text) => text.get().as_str(),
                 None => "-",
             };
             write!(said, " {text}")?;
@@ -154,14 +156,14 @@ fn layers_are_changed_by_their_indices(rt: HostRuntime) -> Result<(), TableFault
 }
 
 // 199,999 features.
-fn many(alloc: Global) -> Result<Items<Shared<Feature>>, AllocError>
+fn many(alloc: Global) -> Result<Items<Feature>, AllocError>
     ensures count { IfOk result (λ features. length features ≤ 199999) }
     ensures values { IfOk result (All (HasValues 0)) }
 {
-    let shared = Shared::new(alloc, feature(alloc, "many")?)?;
+    let one = feature(alloc, "many")?;
     let mut features = Items::new(alloc);
     for _number in 0..199_999_u32 {
-        features.push(shared.share()?)?;
+        features.push(one.duplicate(alloc)?)?;
     }
     Ok(features)
 }

@@ -1,5 +1,5 @@
 use expressions::{holds, item_value, read};
-use mapdefs::{Expr, Items, Rule, Text};
+use mapdefs::{Expr, Items, Rule, Text, Texts, Values};
 use std::alloc::{AllocError, Global};
 use test_tables::{TableFault, check_rows};
 
@@ -8,23 +8,22 @@ use test_tables::{TableFault, check_rows};
 const ITEMS: &str = "a:10;t:y;e:;n:1e3;s:abc;z:-5;A:7;q:x,,y;w: 10;big:1e13;\u{c9}:x";
 
 // Names and values of the items.
-fn items(alloc: Global) -> Result<(Items<Text>, Items<Text>), AllocError> {
+fn items(alloc: Global) -> Result<(Items<Text>, Values), AllocError> {
     let mut names = Items::new(alloc);
-    let mut values = Items::new(alloc);
+    let mut values = Texts::new(alloc);
     for item in ITEMS.split(';') {
         let (name, value) = item.split_once(':').unwrap_or((item, ""));
-        let (name, value) = (Text::from_str(alloc, name)?, Text::from_str(alloc, value)?);
-        names.push(name)?;
+        names.push(Text::from_str(alloc, name)?)?;
         values.push(value)?;
     }
-    Ok((names, values))
+    Ok((names, Values::all_of(alloc, values)?))
 }
 
 // Whether an expression is true of the items.
 fn is_true(alloc: Global, expr: Expr) -> Result<bool, AllocError> {
     let (names, values) = items(alloc)?;
     let rule = Rule::Logic(expr);
-    Ok(holds(&rule, names.as_slice(), values.as_slice(), ""))
+    Ok(holds(&rule, names.as_slice(), &values, ""))
 }
 
 // Whether a text is an expression that is true of the items.
@@ -136,19 +135,19 @@ fn one_of_two(alloc: Global, value: &str) -> Result<bool, AllocError> {
     let mut texts = Items::new(alloc);
     texts.push(Text::from_str(alloc, "a")?)?;
     texts.push(Text::from_str(alloc, "b")?)?;
-    Ok(holds(&Rule::OneOf(texts), &[], &[], value))
+    Ok(holds(&Rule::OneOf(texts), &[], &Values::none(), value))
 }
 
 // Whether `b` itself holds of a value.
 fn equals(alloc: Global, value: &str) -> Result<bool, AllocError> {
     let rule = Rule::Equals(Text::from_str(alloc, "b")?);
-    Ok(holds(&rule, &[], &[], value))
+    Ok(holds(&rule, &[], &Values::none(), value))
 }
 
 // Whether an item has that value.
 fn has_value(alloc: Global, name: &str, value: &str) -> Result<bool, AllocError> {
     let (names, values) = items(alloc)?;
-    Ok(item_value(names.as_slice(), values.as_slice(), name) == value)
+    Ok(item_value(names.as_slice(), &values, name) == value)
 }
 
 // Whether rules hold: all of `c`, one of two of `b` and of `c`, one of `b` and of `B`; and whether `S` is
@@ -157,7 +156,7 @@ const RULES: &str = "[true, true, false, true, false, true, true]|";
 
 fn rules(alloc: Global, _row: &str) -> Result<String, AllocError> {
     let truths = [
-        holds(&Rule::Always, &[], &[], "c"),
+        holds(&Rule::Always, &[], &Values::none(), "c"),
         one_of_two(alloc, "b")?,
         one_of_two(alloc, "c")?,
         equals(alloc, "b")?,

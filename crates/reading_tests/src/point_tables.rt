@@ -1,5 +1,5 @@
-use csvpoints::{CsvError, CsvKind, Table, read};
-use mapdefs::Text;
+use csvpoints::{CsvError, CsvKind, Table, TableFields, read};
+use mapdefs::{MAX_ITEMS, Text, Values};
 use std::alloc::{AllocError, Global};
 use test_tables::{TableFault, check_rows};
 
@@ -80,11 +80,26 @@ fn add_texts(out: &mut String, texts: &[Text]) -> Result<(), AllocError> {
     Ok(())
 }
 
+// Adds the values of a feature with `+` between.
+fn add_values(out: &mut String, values: &Values) -> Result<(), AllocError> {
+    for index in 0..MAX_ITEMS {
+        let Some(value) = values.get(index) else {
+            return Ok(());
+        };
+        if index > 0 {
+            out.push_str("+")?;
+        }
+        out.push_str(value)?;
+    }
+    Ok(())
+}
+
 // The names of the columns, and of each feature a `;`, its points and its values.
-fn written(alloc: Global, table: &Table) -> Result<String, AllocError> {
+fn written(alloc: Global, table: Table) -> Result<String, AllocError> {
+    let TableFields { columns, features } = table.into_fields();
     let mut out = String::new(alloc);
-    add_texts(&mut out, table.get().columns.as_slice())?;
-    for feature in table.get().features.as_slice() {
+    add_texts(&mut out, columns.as_slice())?;
+    for feature in features.into_features(alloc)?.as_slice() {
         out.push_str(";")?;
         for part in feature.get().parts.as_slice() {
             for place in part.as_slice() {
@@ -92,7 +107,7 @@ fn written(alloc: Global, table: &Table) -> Result<String, AllocError> {
                 write!(out, "{x} {y} ")?;
             }
         }
-        add_texts(&mut out, feature.get().values.as_slice())?;
+        add_values(&mut out, &feature.get().values)?;
     }
     Ok(out)
 }
@@ -107,7 +122,7 @@ fn result_of(
 ) -> Result<String, AllocError> {
     let bytes = bytes_of(alloc, text)?;
     match read(alloc, bytes.as_slice(), x, y, limit) {
-        Ok(table) => written(alloc, &table),
+        Ok(table) => written(alloc, table),
         Err(error) => error.to_string(alloc),
     }
 }

@@ -11,11 +11,7 @@ fn class_value<'a>(layer: &LayerFields, feature: &'a FeatureFields) -> &'a str
     ensures { result.now ≡ class_value layer.now feature.now }
 {
     match &layer.classitem {
-        Some(name) => item_value(
-            layer.items.as_slice(),
-            feature.values.as_slice(),
-            name.as_str(),
-        ),
+        Some(name) => item_value(layer.items.as_slice(), &feature.values, name.as_str()),
         None => "",
     }
 }
@@ -25,8 +21,7 @@ fn takes(class: &ClassFields, layer: &LayerFields, feature: &FeatureFields, valu
     requires { value.now ≡ class_value layer.now feature.now }
     ensures { result ≡ holds class.now.rule layer.now.items feature.now.values (class_value layer.now feature.now) }
 {
-    let (names, values) = (layer.items.as_slice(), feature.values.as_slice());
-    holds(&class.rule, names, values, value)
+    holds(&class.rule, layer.items.as_slice(), &feature.values, value)
 }
 
 /// The class of a feature of the layer at the scale: the first one that it may be of.

@@ -9,7 +9,7 @@ ghost use Rattle.mapdefs.specs.declared.layer.Geometry.TheVariants as kind;
 
 use geom::{Coordinate, GREATEST_COORDINATE, LEAST_COORDINATE, Micro, World, WorldBox};
 pub use in_window::InWindow;
-use mapdefs::{Feature, Geometry, Items, Layer, LayerFields, MapFields, Shared, SharedItems, Text};
+use mapdefs::{Feature, Geometry, Items, Layer, LayerFields, MapFields, SharedItems, Text};
 use std::alloc::{AllocError, Global};
 
 // A text without characters.
@@ -59,14 +59,11 @@ pub fn layer_fields(alloc: Global, name: Text) -> LayerFields
 }
 
 /// The features of a layer that has this one alone.
-pub fn one_feature(
-    alloc: Global,
-    feature: Feature,
-) -> Result<SharedItems<Shared<Feature>>, AllocError>
+pub fn one_feature(alloc: Global, feature: Feature) -> Result<SharedItems<Feature>, AllocError>
     ensures { IfOk result (λ features. features ≡ feature ∷ []) }
 {
     let mut features = Items::new(alloc);
-    features.push(Shared::new(alloc, feature)?)?;
+    features.push(feature)?;
     SharedItems::new(alloc, features)
 }
 

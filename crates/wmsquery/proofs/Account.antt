@@ -25,7 +25,8 @@ use Rattle.wmsquery.specs.Order.{first_fault, order, map_order, information_orde
 use Rattle.wmsquery.specs.Pairs.{Texts, given}
 use Rattle.wmsquery.specs.Query.{operation_in, layer_names, system_in, area_in, format_in, background_in, asked_in, column_in, row_in, refusal, looked_at}
 use Rattle.wmsquery.specs.Reading.{IsErrorOf, checked, operation_read, layers_read, viewport_read, output_read, map_read, asked_read, pixel_read, information_read, own_read, request_read}
-use Rattle.wmsquery.specs.Values.{and_then, service_of, version_of, layers_of, styles_of, system_of, area_of, side_of, format_of, transparent_of, background_of, background_for, info_format_of, feature_count_of, pixel_of, sequence_of}
+use Rattle.wmsquery.specs.Values.{service_of, version_of, layers_of, styles_of, system_of, area_of, side_of, format_of, transparent_of, background_of, background_for, info_format_of, feature_count_of, pixel_of, sequence_of}
+use Rattle.mapdefs.specs.Outcome.{and_then}
 use Rattle.wmsquery.proofs.FirstFault.{checked-last, checked-then, or_later, stretches, stretch-then}
 use Rattle.wmsquery.proofs.Steps.{steps, unchecked, same-value, same-fault}
 

@@ -6,7 +6,7 @@ use Rattle.wmsquery.specs.declared.fault.Parameter.{Parameter}
 use Rattle.wmsquery.specs.declared.fault.WmsFault.{WmsFault}
 use Rattle.wmsquery.specs.Order.{first_of, first_fault}
 use Rattle.wmsquery.specs.Reading.{checked}
-use Rattle.wmsquery.specs.Values.{and_then}
+use Rattle.mapdefs.specs.Outcome.{and_then}
 
 -- some parameters are not refused
 abbrev pub AreAccepted : (Parameter → Option Code) → List Parameter → Type 0

@@ -14,7 +14,8 @@ use Rattle.wmsquery.specs.Meaning.{LaterChangesNothing}
 use Rattle.wmsquery.specs.Order.{first_of, first_fault, order}
 use Rattle.wmsquery.specs.Pairs.{Texts, pairs_of, texts_of, some_text, names_of}
 use Rattle.wmsquery.specs.Query.{operation_in, refusal, looked_at}
-use Rattle.wmsquery.specs.Values.{and_then, service_of, operation_of, version_of, layers_of, styles_of, system_of, area_of, side_of, format_of, transparent_of, background_of, asked_of, info_format_of, feature_count_of, pixel_of, sequence_of}
+use Rattle.wmsquery.specs.Values.{service_of, operation_of, version_of, layers_of, styles_of, system_of, area_of, side_of, format_of, transparent_of, background_of, asked_of, info_format_of, feature_count_of, pixel_of, sequence_of}
+use Rattle.mapdefs.specs.Outcome.{and_then}
 
 -- ---- on what the refusal of a parameter depends
 

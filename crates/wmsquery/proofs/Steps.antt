@@ -4,7 +4,7 @@ use Rattle.wmsquery.specs.declared.fault.Code.{Code}
 use Rattle.wmsquery.specs.declared.fault.Parameter.{Parameter}
 use Rattle.wmsquery.specs.declared.fault.WmsFault.{WmsFault}
 use Rattle.wmsquery.specs.Reading.{checked}
-use Rattle.wmsquery.specs.Values.{and_then}
+use Rattle.mapdefs.specs.Outcome.{and_then}
 
 -- where there is a value at the end, the first step has a value, and the rest makes the value at the end from it
 pub record HasSteps {X Y E : Type 0} (x : Result X E) (k : X → Result Y E) (y : Y) : Type 0 where

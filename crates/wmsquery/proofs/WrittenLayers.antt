@@ -10,7 +10,8 @@ use Rattle.mapdefs.specs.declared.layer.LayerFields.{LayerFields}
 use Rattle.mapdefs.specs.declared.map.MapFields.{MapFields}
 use Rattle.mapdefs.specs.Name.{index_of, is_same_name}
 use Rattle.wmsquery.specs.Pairs.{names_in}
-use Rattle.wmsquery.specs.Values.{and_then, listed, layer_named, defined, indices_of, layers_of, is_among, is_queryable, asked, asked_of}
+use Rattle.wmsquery.specs.Values.{listed, layer_named, defined, indices_of, layers_of, is_among, is_queryable, asked, asked_of}
+use Rattle.mapdefs.specs.Outcome.{and_then}
 use Rattle.wmsquery.specs.declared.fault.Code.TheVariants as code
 use Rattle.wmsquery.specs.Written.{IsNamed, AreNamed, with_commas}
 use Rattle.wmsquery.proofs.WrittenValues.{split-joined}

@@ -26,7 +26,8 @@ use Rattle.wmsquery.specs.Meaning.{HasValues, HasInformation, IsMeaningOf}
 use Rattle.wmsquery.specs.Order.{first_of, first_fault, order, map_order, information_order}
 use Rattle.wmsquery.specs.Pairs.{Texts, some_text, texts_of, given, names_of}
 use Rattle.wmsquery.specs.Query.{operation_in, layer_names, styles_in, system_in, area_in, format_in, background_in, asked_in, column_in, row_in, refusal, looked_at}
-use Rattle.wmsquery.specs.Values.{and_then, service_of, operation_of, layers_of, styles_of, system_of, area_of, side_of, format_of, transparent_of, background_of, background_for, asked_of, feature_count_of, pixel_of}
+use Rattle.wmsquery.specs.Values.{service_of, operation_of, layers_of, styles_of, system_of, area_of, side_of, format_of, transparent_of, background_of, background_for, asked_of, feature_count_of, pixel_of}
+use Rattle.mapdefs.specs.Outcome.{and_then}
 use Rattle.wmsquery.specs.Written.{IsKnown, with_commas, crs_text, bbox_text, format_text, transparent_text, background_text, picture_pairs, feature_pairs, written_pairs, AreNamed, IsOffered, IsBackground, IsColour, IsPicture, IsInformation, IsWritable, WrittenIsMeant}
 use Rattle.wmsquery.proofs.FirstFault.{AreAccepted, none-refused, none-both}
 use Rattle.wmsquery.proofs.WrittenAreas.{IsNumberByte, written-plain, down-plain, up-plain, digits-plain, area-written, colour-written}

@@ -9,7 +9,7 @@ use Rattle.std.specs.Option.{option_and_then}
 use Rattle.geom.specs.Decimal.{number_of}
 use Rattle.geom.specs.Side.{IsPictureSide, picture_side}
 use Rattle.geom.proofs.Written.{numeral}
-use Rattle.wmsquery.specs.Pairs.{is_comma}
+use Rattle.crsaxes.specs.Axes.{is_comma}
 use Rattle.geom.specs.Natural.{number_in}
 use Rattle.wmsquery.specs.Values.{side_of, count_within, feature_count_of, index_below, pixel_of}
 use Rattle.wmsquery.specs.declared.fault.Code.TheVariants as code

@@ -5,6 +5,7 @@ use Rattle.std.specs.Option.{option_map, option_and_then}
 use Rattle.std.specs.Str.{str_eq_ignore_ascii_case}
 use Rattle.std.specs.Str.Lossy.{utf8_lossy}
 use Rattle.form_urlencoded.specs.Form.{raw_pairs, decode}
+use Rattle.crsaxes.specs.Axes.{is_comma}
 use Rattle.wmsquery.specs.declared.fault.Parameter.{Parameter}
 use Rattle.wmsquery.specs.Report.{parameter_text}
 
@@ -45,10 +46,6 @@ some_text (b ∷ bs) = Some (b ∷ bs)
 -- the text of a parameter, where it is not empty
 abbrev pub given : Texts → Parameter → Option (List ℕ)
 given texts p = option_and_then some_text (texts p)
-
--- a comma
-abbrev pub is_comma : ℕ → Bool
-is_comma b = b == 44
 
 -- the names of a list with commas between them
 abbrev pub names_in : List ℕ → List (List ℕ)

@@ -13,7 +13,8 @@ use Rattle.wmsquery.specs.declared.fault.Parameter.TheVariants as parameter
 use Rattle.wmsquery.specs.declared.request.Format.{Format}
 use Rattle.wmsquery.specs.Order.{order}
 use Rattle.wmsquery.specs.Pairs.{Texts, given, names_of}
-use Rattle.wmsquery.specs.Values.{and_then, service_of, operation_of, version_of, layers_of, styles_of, system_of, area_of, side_of, format_of, transparent_of, background_of, background_for, asked_of, info_format_of, feature_count_of, pixel_of, sequence_of}
+use Rattle.wmsquery.specs.Values.{service_of, operation_of, version_of, layers_of, styles_of, system_of, area_of, side_of, format_of, transparent_of, background_of, background_for, asked_of, info_format_of, feature_count_of, pixel_of, sequence_of}
+use Rattle.mapdefs.specs.Outcome.{and_then}
 
 -- the names of the layers that LAYERS lists
 abbrev pub layer_names : Texts → List (List ℕ)

@@ -18,7 +18,8 @@ use Rattle.wmsquery.specs.declared.request.Request.{Request}
 use Rattle.wmsquery.specs.declared.request.Request.TheVariants as request
 use Rattle.wmsquery.specs.Pairs.{Texts, given}
 use Rattle.wmsquery.specs.Query.{layer_names, asked_in}
-use Rattle.wmsquery.specs.Values.{and_then, service_of, operation_of, version_of, layers_of, styles_of, system_of, area_of, side_of, format_of, transparent_of, background_of, background_for, info_format_of, feature_count_of, pixel_of, sequence_of}
+use Rattle.wmsquery.specs.Values.{service_of, operation_of, version_of, layers_of, styles_of, system_of, area_of, side_of, format_of, transparent_of, background_of, background_for, info_format_of, feature_count_of, pixel_of, sequence_of}
+use Rattle.mapdefs.specs.Outcome.{and_then}
 
 -- what a parameter means, or its refusal as a fault
 abbrev pub checked : {X : Type 0} → Parameter → Result X Code → Result X WmsFault

@@ -25,11 +25,7 @@ use Rattle.wmsquery.specs.declared.lists.TheConstants.{MAX_NAMES}
 use Rattle.wmsquery.specs.declared.request.Format.{Format}
 use Rattle.wmsquery.specs.declared.request.Format.TheVariants.{Png, Pixmap, ArbitraryMap}
 use Rattle.wmsquery.specs.Pairs.{names_in}
-
--- the next step with a value, where there is one
-abbrev pub and_then : {X Y E : Type 0} → Result X E → (X → Result Y E) → Result Y E
-and_then (Ok x) f = f x
-and_then (Err refusal) f = Err refusal
+use Rattle.mapdefs.specs.Outcome.{and_then}
 
 -- a parameter is required
 abbrev pub required : {X : Type 0} → Option X → Result X Code

@@ -7,7 +7,7 @@ use Rattle.layers.proofs.boxes.box_of_part.Given as goal
 -- with the vertices from this block on, the box is that of all; it has the first of these already
 abbrev pub invariant-loop-block : goal.invariant-loop-block
 invariant-loop-block l = record {
-  box : fold with_place l.grown (drop (64 * l.block-index) l.fn.part) ≡ box_of_places l.fn.part;
+  box : fold with_place l.grown (drop (32 * l.block-index) l.fn.part) ≡ box_of_places l.fn.part;
   wide : IsWider l.grown nowhere;
-  again : 0 < l.block-index → (v : Place) (more : List Place) → drop (64 * l.block-index) l.fn.part ≡ v ∷ more → with_place l.grown v ≡ l.grown;
+  again : 0 < l.block-index → (v : Place) (more : List Place) → drop (32 * l.block-index) l.fn.part ≡ v ∷ more → with_place l.grown v ≡ l.grown;
 }

@@ -2,10 +2,10 @@ use Rattle.std.proofs.Common.{sym, ◌∙◌, arith}
 use Rattle.mapparse.proofs.Padding.{padded-more, padded-full}
 use Rattle.mapparse.proofs.features.fill_up.Goals as goal
 
-pub loop-alloc-preserved : goal.loop-alloc-preserved
-loop-alloc-preserved c =
-    rw (c.in_ok-push.ensures.items, c.in_ok-from_str.ensures)
-    (padded-more c.args.count c.loop-alloc.values.items (omega (arith, c.loop-alloc-test.true)) ∙ c.loop-alloc.invariant)
+pub loop-values-preserved : goal.loop-values-preserved
+loop-values-preserved c =
+    rw c.in_ok-push.ensures.ok
+    (padded-more c.args.count c.loop-values.values (omega (arith, c.loop-values-test.true)) ∙ c.loop-values.invariant)
 
 pub returns : goal.returns
-returns c = sym (padded-full c.args.count c.loop-alloc.values.items (omega (arith, c.loop-alloc-test.false))) ∙ c.loop-alloc.invariant
+returns c = sym (padded-full c.args.count c.loop-values.values (omega (arith, c.loop-values-test.false))) ∙ c.loop-values.invariant

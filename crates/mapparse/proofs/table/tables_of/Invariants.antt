@@ -1,6 +1,6 @@
 use Rattle.std.proofs.Common.{◌≡◌, ◌++◌, drop, take}
 use Rattle.std.specs.Prelude.{Ok}
-use Rattle.mapwords.specs.Fault.{and_then}
+use Rattle.mapdefs.specs.Outcome.{and_then}
 use Rattle.mapparse.specs.Tables.{tables_of, HaveRoom}
 use Rattle.mapparse.proofs.table.tables_of.Given as goal
 

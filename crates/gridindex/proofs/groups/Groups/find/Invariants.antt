@@ -4,7 +4,7 @@ use Rattle.gridindex.proofs.groups.Groups.find.Given as goal
 
 abbrev pub invariant-loop-at : goal.invariant-loop-at
 invariant-loop-at l = record {
-  found : HasFound l.window l.boxes l.self.order.items l.at l.found.items;
+  found : HasFound l.fn.window l.boxes l.self.order.items l.at l.found.items;
   bound : l.at ≤ l.self.grouped;
 }
 
