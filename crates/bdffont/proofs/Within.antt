@@ -32,7 +32,8 @@ use Rattle.bdffont.specs.Bits.{bits, is_row, row_pixels}
 use Rattle.bdffont.specs.Fields.{is_small, box_with, box_at, count_at}
 use Rattle.bdffont.specs.Keyword.{keyword_in}
 use Rattle.bdffont.specs.Number.{number_at}
-use Rattle.bdffont.specs.Sections.{and_then, opened, closed, draft_with, draft_of, before, in_header, between, rows_with, rows_of, encoded, advanced, bounded, in_glyph, with_encoded, after_rows, section_after, says}
+use Rattle.bdffont.specs.Sections.{opened, closed, draft_with, draft_of, before, in_header, between, rows_with, rows_of, encoded, advanced, bounded, in_glyph, with_encoded, after_rows, section_after, says}
+use Rattle.mapdefs.specs.Outcome.{and_then}
 use Rattle.bdffont.specs.File.{after_line, at_end, reads}
 
 -- what is read of a file is within its limits

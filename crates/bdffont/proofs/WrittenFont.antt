@@ -36,7 +36,8 @@ use Rattle.bdffont.specs.Fields.{advance_at, box_at, box_of, count_at, encoding_
 use Rattle.bdffont.specs.File.{reads}
 use Rattle.bdffont.specs.Keyword.{keyword_in, keyword_of, spelling}
 use Rattle.bdffont.specs.Number.{number_of, size_of}
-use Rattle.bdffont.specs.Sections.{and_then, between, closed, has_properties, in_glyph, in_header, opened, opens_properties, says, section_after}
+use Rattle.bdffont.specs.Sections.{between, closed, has_properties, in_glyph, in_header, opened, opens_properties, says, section_after}
+use Rattle.mapdefs.specs.Outcome.{and_then}
 use Rattle.bdffont.specs.Words.{is_space, words}
 use Rattle.bdffont.specs.Writing.{IsBox, IsGlyph, OtherLinesAreSkipped, WrittenFontIsRead, allows_others, box_words, glyph_lines, line_of, row_lines, whole}
 use Rattle.bdffont.proofs.Words.{kept-first}

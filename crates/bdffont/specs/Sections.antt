@@ -20,11 +20,7 @@ use Rattle.bdffont.specs.declared.step.LineError.TheVariants.{Fault, NoMemory}
 use Rattle.bdffont.specs.Bits.{is_row, row_pixels}
 use Rattle.bdffont.specs.Fields.{box_at, encoding_at, advance_at, count_at}
 use Rattle.bdffont.specs.Keyword.{keyword_in}
-
--- what follows from a result, unless it is a fault
-abbrev pub and_then : {X Y : Type 0} → Result X FontKind → (X → Result Y FontKind) → Result Y FontKind
-and_then (Ok x) f = f x
-and_then (Err kind) f = Err kind
+use Rattle.mapdefs.specs.Outcome.{and_then}
 
 -- a glyph begins, if there is room for a further one; its header has named no field
 abbrev pub opened : Draft → Result Section FontKind

@@ -1,4 +1,5 @@
 ghost use Rattle.std.specs.Prelude.{◌≡◌, IfOk, IfErr};
+ghost use Rattle.bdffont.specs.Keyword.{keyword_in};
 ghost use Rattle.bdffont.specs.Sections.{opened, closed, draft_of, before, in_header, between, encoded, advanced, bounded, rows_of, in_glyph, with_glyph, in_rows, section_after, has_properties, says, start, IsStop};
 
 use crate::bits::{is_row, push_row};
@@ -99,15 +100,10 @@ fn before(keyword: Option<Keyword>) -> Result<Section, FontKind>
 }
 
 // The section after a line of the font's header.
-fn in_header(
-    header: FontHeader,
-    keyword: Option<Keyword>,
-    line: &[u8],
-    alloc: Global,
-) -> Result<Section, FontKind>
-    ensures { result ≡ in_header header keyword line.now }
+fn in_header(header: FontHeader, line: &[u8], alloc: Global) -> Result<Section, FontKind>
+    ensures { result ≡ in_header header (keyword_in line.now) line.now }
 {
-    match keyword {
+    match Keyword::at(line) {
         None => Ok(Section::InHeader(header)),
         Some(Keyword::FontBoundingBox) => {
             let bounds = Some(box_at(line)?);
@@ -179,13 +175,12 @@ fn bounded(header: GlyphHeader, line: &[u8]) -> Result<GlyphHeader, FontKind>
 fn in_glyph(
     draft: Draft,
     header: GlyphHeader,
-    keyword: Option<Keyword>,
     line: &[u8],
     alloc: Global,
 ) -> Result<Section, FontKind>
-    ensures { result ≡ in_glyph draft header keyword line.now }
+    ensures { result ≡ in_glyph draft header (keyword_in line.now) line.now }
 {
-    match keyword {
+    match Keyword::at(line) {
         None => Ok(Section::InGlyph(draft, header)),
         Some(Keyword::Encoding) => Ok(Section::InGlyph(draft, encoded(header, line)?)),
         Some(Keyword::Dwidth) => Ok(Section::InGlyph(draft, advanced(header, line)?)),
@@ -242,11 +237,9 @@ fn section_after(section: Section, line: &[u8], alloc: Global) -> Result<Section
 {
     match section {
         Section::Before => Ok(before(Keyword::at(line))?),
-        Section::InHeader(header) => Ok(in_header(header, Keyword::at(line), line, alloc)?),
+        Section::InHeader(header) => Ok(in_header(header, line, alloc)?),
         Section::Between(draft) => Ok(between(draft, Keyword::at(line))?),
-        Section::InGlyph(draft, header) => {
-            Ok(in_glyph(draft, header, Keyword::at(line), line, alloc)?)
-        }
+        Section::InGlyph(draft, header) => Ok(in_glyph(draft, header, line, alloc)?),
         Section::InRows(draft, rows) => in_rows(draft, rows, line),
         Section::Ended(font) => Ok(Section::Ended(font)),
     }

@@ -4,7 +4,7 @@ ghost use Rattle.bdffont.specs.declared.text.TheConstants.{MAX_CHARACTERS};
 ghost use Rattle.geom.specs.Range.{IsBelow};
 ghost use Rattle.mapdefs.specs.FontLimits.{IsRising};
 ghost use Rattle.bdffont.specs.File.{has_encoding};
-ghost use Rattle.bdffont.specs.Ink.{glyph_of, advance_of, text_width, inks, left_of, last_row, first_row, bottom_of, past, inks_at, covers, has_ink};
+ghost use Rattle.bdffont.specs.Ink.{glyph_of, advance_of, text_width, inks, left_of, last_row, first_row, bottom_of, past, inks_at, has_ink};
 
 use geom::Pixel;
 use mapdefs::{BitmapBox, Font, Glyph};
@@ -181,19 +181,6 @@ pub fn inks_at(glyph: &Glyph, corner: (i64, i64), i: i64, j: i64) -> bool
     inks(glyph, column, row)
 }
 
-// Whether a glyph has ink in a column and a row of the picture, in a text at a pixel, where the pen has advanced so far.
-fn covers(font: BitmapBox, at: Pixel, pen: u32, cell: (i64, i64), glyph: &Glyph) -> bool
-    requires { pen ≤ 2 ^ 16 }
-    ensures { result ≡ covers font at pen cell.0 cell.1 glyph.now }
-{
-    inks_at(
-        glyph,
-        corner_of(font, at, pen, glyph.bounds),
-        cell.0,
-        cell.1,
-    )
-}
-
 /// Whether a text has ink in column `i` and row `j` of the picture, where the upper left pixel of the
 /// text is `at`. The pen starts on the text's left side and advances with each character. A character
 /// without a glyph has the glyph 63, or no ink and no advance where the font has none. Ink may lie
@@ -210,7 +197,8 @@ pub fn ink(font: &Font, text: &str, at: Pixel, i: i64, j: i64) -> bool
     let mut rest = text;
     while let Some((character, after)) = split_char(rest) {
         if let Some(glyph) = glyph_of(glyphs, character) {
-            if covers(fields.bounds, at, pen, (i, j), glyph) {
+            let corner = corner_of(fields.bounds, at, pen, glyph.bounds);
+            if inks_at(glyph, corner, i, j) {
                 return true;
             }
             pen += u32::from(glyph.advance);

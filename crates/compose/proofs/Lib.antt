@@ -1,4 +1,5 @@
 pub mod Candidates
+pub mod Classing
 pub mod Classifying
 pub mod Cutting
 pub mod Finishing

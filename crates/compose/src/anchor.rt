@@ -1,5 +1,4 @@
 ghost use Rattle.std.specs.Prelude.{◌≡◌, ◌^◌, ◌&&◌, pos, int_le, int_lt, IfSome, IsTrue};
-ghost use Rattle.std.specs.Int.{int_max, int_min};
 ghost use Rattle.geom.specs.Range.{IsBelow};
 ghost use Rattle.labelcache.specs.Candidate.{IsAnchor};
 ghost use Rattle.mapdefs.specs.declared.layer.Geometry.TheVariants as kind;
@@ -8,28 +7,6 @@ ghost use Rattle.compose.specs.Anchor.{anchor_on, anchor_place, halfway, is_show
 use geom::{Coordinate, Micro, PictureSide, Pixel, World};
 use mapdefs::{FeatureFields, Geometry};
 use scene::Scene;
-
-// The lesser of two coordinates.
-fn lesser(a: Coordinate, b: Coordinate) -> Coordinate
-    ensures { result ≡ int_min a b }
-{
-    if a.get().millionths() <= b.get().millionths() {
-        a
-    } else {
-        b
-    }
-}
-
-// The greater of two coordinates.
-fn greater(a: Coordinate, b: Coordinate) -> Coordinate
-    ensures { result ≡ int_max a b }
-{
-    if a.get().millionths() <= b.get().millionths() {
-        b
-    } else {
-        a
-    }
-}
 
 // The middle between two coordinates, halved downwards.
 fn halfway(a: Coordinate, b: Coordinate) -> Coordinate
@@ -49,10 +26,10 @@ fn middle_of(ring: &[World]) -> Option<World>
     let (mut west, mut east) = (first.x(), first.x());
     let (mut south, mut north) = (first.y(), first.y());
     for place in rest {
-        west = lesser(west, place.x());
-        east = greater(east, place.x());
-        south = lesser(south, place.y());
-        north = greater(north, place.y());
+        west = west.min(place.x());
+        east = east.max(place.x());
+        south = south.min(place.y());
+        north = north.max(place.y());
     }
     Some(World::new(halfway(west, east), halfway(south, north)))
 }

@@ -17,14 +17,10 @@ fn feature_text<'a>(layer: &LayerFields, feature: &'a FeatureFields) -> &'a str
     ensures { result.now ≡ feature_text layer.now feature.now }
 {
     if let Some(text) = &feature.text {
-        return text.as_str();
+        return text.get().as_str();
     }
     match &layer.labelitem {
-        Some(name) => item_value(
-            layer.items.as_slice(),
-            feature.values.as_slice(),
-            name.as_str(),
-        ),
+        Some(name) => item_value(layer.items.as_slice(), &feature.values, name.as_str()),
         None => "",
     }
 }

@@ -57,7 +57,7 @@ fn add_features<'a>(
 {
     let features = layer.features.as_slice();
     for index in found {
-        add_feature(labels, scene, layer, features[*index as usize].get().get())?;
+        add_feature(labels, scene, layer, features[*index as usize].get())?;
     }
     Ok(())
 }

@@ -1,6 +1,7 @@
 //! Laws of the definitions. A law is a function without arguments whose contract states it.
 
 ghost use Rattle.compose.specs.Anchor.{AnchorsAreNear};
+ghost use Rattle.compose.specs.Classes.{CommonClassIsOfAll};
 ghost use Rattle.compose.specs.Labels.{FoundLabelAll};
 ghost use Rattle.compose.specs.Near.{CandidatesPaintAll, PaintsNear};
 ghost use Rattle.compose.specs.Picture.{HasOnePicture, LastMentionsPaintAll};
@@ -42,4 +43,9 @@ pub fn one_picture()
 /// A list of layers in which one stands twice gives each pixel the colour that the list without its first mention gives it.
 pub fn last_mentions_paint_all()
     ensures { LastMentionsPaintAll }
+{}
+
+/// A first class of a layer that has no expression and no bounds on the scale is the class of each of its features.
+pub fn common_class()
+    ensures { CommonClassIsOfAll }
 {}

@@ -20,6 +20,7 @@ mod ink;
 mod label;
 mod labelled_layer;
 pub mod laws;
+mod layer_classes;
 mod margin;
 mod paint;
 mod polygon;

@@ -9,6 +9,7 @@ use crate::classified_feature::ClassifiedFeature;
 use crate::drawing::Drawing;
 use crate::label::add_candidate;
 use crate::labelled_layer::add_layer;
+use crate::layer_classes::LayerClasses;
 use crate::margin::margin_of;
 use crate::polygon::paint_polygon;
 use canvas::Canvas;
@@ -136,9 +137,10 @@ fn draw_features<'a>(
     requires height { drawing.old.canvas.height ≡ scene.now.view.height }
     ensures { OnOk result (IsDrawn scene.now drawing.old drawing.new (flat_map (given_at (classified_feature scene.now.scale layer.now) layer.now.features) found.now)) }
 {
+    let classes = LayerClasses::new(layer);
     let features = layer.features.as_slice();
     for index in found {
-        draw_feature(drawing, scene, layer, features[*index as usize].get().get())?;
+        draw_feature(drawing, scene, &classes, features[*index as usize].get())?;
     }
     Ok(())
 }
@@ -147,17 +149,17 @@ fn draw_features<'a>(
 fn draw_feature<'a>(
     drawing: &mut Drawing<'a>,
     scene: &Scene<'_>,
-    layer: &'a LayerFields,
+    classes: &LayerClasses<'a>,
     feature: &'a FeatureFields,
 ) -> Result<(), AllocError>
     requires width { drawing.old.canvas.width ≡ scene.now.view.width }
     requires height { drawing.old.canvas.height ≡ scene.now.view.height }
-    ensures { OnOk result (IsDrawn scene.now drawing.old drawing.new (classified_feature scene.now.scale layer.now feature.now)) }
+    ensures { OnOk result (IsDrawn scene.now drawing.old drawing.new (classified_feature scene.now.scale classes.now feature.now)) }
 {
-    let Some(class) = scene.class_of(layer, feature) else {
+    let Some(class) = classes.class_of(scene, feature) else {
         return Ok(());
     };
-    let classified = ClassifiedFeature::new(layer, feature, class);
+    let classified = ClassifiedFeature::new(classes.layer(), feature, class);
     paint_feature(&mut drawing.canvas, scene, &classified)?;
     add_candidate(&mut drawing.labels, scene, &classified)
 }

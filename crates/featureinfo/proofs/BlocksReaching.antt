@@ -55,24 +55,24 @@ all-fewer P (suc n) (place ∷ places) all = (all.0, all-fewer P n places all.1)
 
 -- the box of a block contains its vertices but the last
 pub block-places : (vertices : List Place) (boxes : List Area) (k : ℕ) (box : Area) (left : List Place) → AreBlockBoxes vertices boxes → k < length boxes → box ≡ get_or boxes k box →
-    left ≡ drop (64 * k) vertices → AllByRecursion (HasPlace box) (take 64 left)
+    left ≡ drop (32 * k) vertices → AllByRecursion (HasPlace box) (take 32 left)
 block-places vertices boxes k box [] are below is e = tt
-block-places vertices boxes k box (from ∷ rest) are below is e = all-fewer (HasPlace box) 64 (from ∷ rest) (block-has vertices boxes k box from rest are below is e)
+block-places vertices boxes k box (from ∷ rest) are below is e = all-fewer (HasPlace box) 32 (from ∷ rest) (block-has vertices boxes k box from rest are below is e)
 
 -- a vertex that reaches is in the block or after it
 or-false : (a b : Bool) → a ≡ false → (a || b) ≡ b
 or-false true b e = absurd (cc)
 or-false false b e = refl
 
-pub passed-over : (view : ViewValue) (limit : ℤ) (side : Side) (left block behind : List Place) → block ≡ take 64 left → behind ≡ drop 64 left → part_reaches view block limit side ≡ false →
+pub passed-over : (view : ViewValue) (limit : ℤ) (side : Side) (left block behind : List Place) → block ≡ take 32 left → behind ≡ drop 32 left → part_reaches view block limit side ≡ false →
     part_reaches view behind limit side ≡ part_reaches view left limit side
 passed-over view limit side left block behind e f none =
     let test : Place → Bool = λ place. is_within side limit (device_point view place) in
-    let parted : block ++ behind ≡ left = ap (λ xs. xs ++ behind) e ∙ (ap (λ xs. take 64 left ++ xs) f ∙ take-append-drop 64 left) in
+    let parted : block ++ behind ≡ left = ap (λ xs. xs ++ behind) e ∙ (ap (λ xs. take 32 left ++ xs) f ∙ take-append-drop 32 left) in
     sym (or-false (list_any test block) (list_any test behind) none) ∙ (sym (list_any-append test block behind) ∙ ap (λ xs. list_any test xs) parted)
 
-pub reached : (view : ViewValue) (limit : ℤ) (side : Side) (left block : List Place) → block ≡ take 64 left → part_reaches view block limit side ≡ true → part_reaches view left limit side ≡ true
+pub reached : (view : ViewValue) (limit : ℤ) (side : Side) (left block : List Place) → block ≡ take 32 left → part_reaches view block limit side ≡ true → part_reaches view left limit side ≡ true
 reached view limit side left block e some =
     let test : Place → Bool = λ place. is_within side limit (device_point view place) in
-    ap (λ xs. list_any test xs) (sym (take-append-drop 64 left)) ∙ (list_any-append test (take 64 left) (drop 64 left)
-    ∙ ap (λ b. b || list_any test (drop 64 left)) (ap (λ xs. list_any test xs) (sym e) ∙ some))
+    ap (λ xs. list_any test xs) (sym (take-append-drop 32 left)) ∙ (list_any-append test (take 32 left) (drop 32 left)
+    ∙ ap (λ b. b || list_any test (drop 32 left)) (ap (λ xs. list_any test xs) (sym e) ∙ some))

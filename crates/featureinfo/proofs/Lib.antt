@@ -1,6 +1,7 @@
 mod BlocksReaching
 mod Firsts
 mod InWindow
+mod ItemLines
 mod OneHitList
 mod PointsNear
 mod Reaching

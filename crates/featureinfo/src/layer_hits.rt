@@ -156,7 +156,7 @@ fn first_hits(
         if hits.len() >= asked.count as usize {
             return Ok(Items::of(hits));
         }
-        let feature = features[*index as usize].get().get();
+        let feature = features[*index as usize].get();
         if is_classed_near(alloc, scene, layer, feature, nearby)? {
             hits.push(*index)?;
         }

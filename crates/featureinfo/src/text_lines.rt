@@ -4,7 +4,7 @@ ghost use Rattle.featureinfo.specs.Answer.{item_line, item_lines, feature_lines,
 
 use crate::layer_hits::LayerHits;
 use itoa::Buffer;
-use mapdefs::{FeatureFields, Items, LayerFields, Map, MapFields, Text};
+use mapdefs::{FeatureFields, Items, LayerFields, Map, MapFields, Text, Values};
 use std::alloc::{AllocError, Global};
 
 // Adds a text as it is.
@@ -27,16 +27,14 @@ fn add_item(out: &mut Vec<u8>, name: &str, value: &str) -> Result<(), AllocError
 }
 
 // Adds the lines of the items of a feature.
-fn add_items(out: &mut Vec<u8>, names: &[Text], values: &[Text]) -> Result<(), AllocError>
+fn add_items(out: &mut Vec<u8>, names: &[Text], values: &Values) -> Result<(), AllocError>
     ensures { OnOk result (out.new.items ≡ out.old.items ++ item_lines names.now values.now) }
 {
-    let mut left = values;
-    for name in names {
-        let [value, rest @ ..] = left else {
+    for (index, name) in names.iter().enumerate() {
+        let Some(value) = values.get(index) else {
             return Ok(());
         };
-        add_item(out, name.as_str(), value.as_str())?;
-        left = rest;
+        add_item(out, name.as_str(), value)?;
     }
     Ok(())
 }
@@ -54,7 +52,7 @@ fn add_feature(
     add(out, "  Feature ")?;
     add(out, Buffer::new().format(index))?;
     add(out, ":\n")?;
-    add_items(out, names, feature.values.as_slice())
+    add_items(out, names, &feature.values)
 }
 
 // Adds the lines of the feature at an index.
@@ -62,10 +60,7 @@ fn add_at(out: &mut Vec<u8>, layer: &LayerFields, index: usize) -> Result<(), Al
     ensures { OnOk result (out.new.items ≡ out.old.items ++ lines_at layer.now index) }
 {
     match layer.features.as_slice().get(index) {
-        Some(feature) => {
-            let feature = feature.get().get();
-            add_feature(out, layer.items.as_slice(), index, feature)
-        }
+        Some(feature) => { add_feature(out, layer.items.as_slice(), index, feature.get()) }
         None => Ok(()),
     }
 }

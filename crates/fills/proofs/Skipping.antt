@@ -1,26 +1,28 @@
 -- Blocks of vertices that are skipped: what their box in the world says of the chain along them.
-use Rattle.std.proofs.Common.{◌≡◌, ◌∙◌, ℕ, ◌*◌, ◌<◌, true, List, [], ◌∷◌, map, refl, sym, ap, arith}
+use Rattle.std.proofs.Common.{◌≡◌, ◌∙◌, ℕ, ◌*◌, ◌<◌, Bool, true, false, List, [], ◌∷◌, map, refl, sym, ap, arith}
+use Rattle.std.proofs.lemmas.Bool.{eqb-true}
 use Rattle.std.proofs.lemmas.Int.{ints}
 use Rattle.std.specs.List.{AllByRecursion, count_by}
 use Rattle.std.specs.Prelude.{int_le, nat_le}
 use lib.IntN.{ℤ, pos, ◌-ℤ◌, ◌*ℤ◌}
 use lib.Signed.{◌<ℤ◌, ◌≤ℤ◌}
-use Rattle.geom.specs.Device.{DevicePoint, pixel_centre}
-use Rattle.geom.specs.Edge.{crosses_at_or_left}
+use Rattle.geom.specs.Device.{DevicePoint, centre, pixel_centre}
+use Rattle.geom.specs.Edge.{EdgeEnds, crosses_at_or_left}
 use Rattle.geom.specs.EvenOdd.{edge_between, is_covered, is_odd}
 use Rattle.geom.specs.Laws.{is_one_of}
 use Rattle.geom.specs.World.{Area, HasPlace, IsExtent, Place}
-use Rattle.geom.proofs.Products.{le_of}
+use Rattle.geom.proofs.Products.{le_of, not_le_of}
 use Rattle.geom.proofs.Quotients.{at_most-by_product, quotient_parts}
 use Rattle.std.specs.Int.{int_div_euclid}
 use Rattle.clip.proofs.Rowed.{first_row-at_most}
+use Rattle.clip.proofs.Sides.{right-crosses}
 use Rattle.viewport.specs.View.{ViewValue, device_point, sixteenths}
 use Rattle.scanfill.specs.Flips.{is_pixel_flipped}
 use Rattle.fills.specs.declared.run.Run.{Run}
 use Rattle.canvas.specs.Latitudes.{row_of}
-use Rattle.fills.specs.Flipped.{AddsEdge, IsRun, AddsChain, is_left, is_right}
+use Rattle.fills.specs.Flipped.{AddsEdge, IsRun, AddsChain, ChainsInAColumnCoverLikeTheirChord, column_of, is_in_column, is_left, is_right}
 use Rattle.vertices.specs.Chain.{HasChain, chain_edges, chain_end}
-use Rattle.vertices.proofs.Chains.{beside, end-has, left, right}
+use Rattle.vertices.proofs.Chains.{beside, end-has, high-has, left, low-has, right}
 use Rattle.vertices.proofs.Placing.{end-placed, sixteenths-rising}
 use Rattle.fills.proofs.Flipping.{one-false, row-between}
 
@@ -98,6 +100,54 @@ by-chord view box from rest old new extent all is adds = record {
       left p (device_point view from) (map (device_point view) rest) (all-placed view box (λ v. v.x ≤ℤ p.x) inside-left (from ∷ rest) all)
       ∙ ap (λ (end : DevicePoint). crosses_at_or_left p (edge_between (device_point view from, end))) (end-placed view from rest) in
       adds i j column below ∙ ap (λ b. is_one_of (is_pixel_flipped old i j) b) (sym covered);
+}
+
+-- the law: right of the column's pixel centre the chain counts like its chord, left of it neither has a crossing
+pub column-law : ChainsInAColumnCoverLikeTheirChord
+column-law view box from rest i j extent all same column =
+    go (nat_le (column_of view box.minx) i) refl
+  where
+    p : DevicePoint
+    p = pixel_centre (pos i) (pos j)
+
+    point : Place → DevicePoint
+    point = device_point view
+
+    whole : ℤ
+    whole = view.area.maxx -ℤ view.area.minx
+
+    chain-chord : Type 0
+    chain-chord = is_covered (chain_edges (point from) (map point rest)) p ≡ crosses_at_or_left p (edge_between (point from, point (chain_end from rest)))
+
+    rising : (a b : ℤ) → a ≤ℤ b → across view a ≤ℤ across view b
+    rising a b le = sixteenths-rising view.width (a -ℤ view.area.minx) (b -ℤ view.area.minx) whole (omega (arith, ints, extent.columns)) (omega (arith, ints, le))
+
+    go : (t : Bool) → nat_le (column_of view box.minx) i ≡ t → chain-chord
+    go true e =
+        let one : column_of view box.minx ≡ column_of view box.maxx = eqb-true (column_of view box.minx) (column_of view box.maxx) same in
+        let east : int_le (across view box.maxx) (centre (pos i)) ≡ true = sym (first_row-at_most (across view box.maxx) view.width i column) ∙ (ap (λ n. nat_le n i) (sym one) ∙ e) in
+        let reached : across view box.maxx ≤ℤ p.x = le_of (across view box.maxx) (centre (pos i)) east in
+        let inside-left : (place : Place) → HasPlace box place → (point place).x ≤ℤ p.x = λ place inside.
+        omega (arith, ints, reached, rising place.x box.maxx inside.east) in
+        left p (point from) (map point rest) (all-placed view box (λ v. v.x ≤ℤ p.x) inside-left (from ∷ rest) all)
+        ∙ ap (λ (end : DevicePoint). crosses_at_or_left p (edge_between (point from, end))) (end-placed view from rest)
+    go false e =
+        let west : int_le (across view box.minx) (centre (pos i)) ≡ false = sym (first_row-at_most (across view box.minx) view.width i column) ∙ e in
+        let before : p.x <ℤ across view box.minx = not_le_of (across view box.minx) (centre (pos i)) west in
+        let inside-right : (place : Place) → HasPlace box place → p.x <ℤ (point place).x = λ place inside.
+        omega (arith, ints, before, rising box.minx place.x inside.west) in
+        let last : HasPlace box (chain_end from rest) = end-has (HasPlace box) from rest all in
+        let chord : EdgeEnds = edge_between (point from, point (chain_end from rest)) in
+        let a = inside-right from all.0 in
+        let b = inside-right (chain_end from rest) last in
+        ap is_odd (right p (point from) (map point rest) (all-placed view box (λ v. p.x <ℤ v.x) inside-right (from ∷ rest) all))
+        ∙ sym (right-crosses chord p (low-has (λ v. p.x <ℤ v.x) chord a b) (high-has (λ v. p.x <ℤ v.x) chord a b))
+
+-- so the flips of its chord serve
+pub in-column : (view : ViewValue) (box : Area) (from : Place) (rest : List Place) (old new : List ℕ) → IsExtent view.area → HasChain box from rest →
+    is_in_column view box ≡ true → AddsEdge view old from (chain_end from rest) new → AddsChain view old from rest new
+in-column view box from rest old new extent all is adds = record {
+  same = λ i j column below. adds i j column below ∙ ap (λ b. is_one_of (is_pixel_flipped old i j) b) (sym (column-law view box from rest i j extent all is column));
 }
 
 -- a block between the two latitudes of a run is skipped, and the run goes on from its last vertex

@@ -1,14 +1,14 @@
 -- Flips that stand for the edges of rings in a picture (docs/DRAWING.md, "When a pixel belongs to a polygon").
-use Rattle.std.specs.Prelude.{◌≡◌, ℕ, ◌<◌, ℤ, pos, ◌≤ℤ◌, ◌<ℤ◌, List, Bool, int_le, int_lt, map}
+use Rattle.std.specs.Prelude.{◌≡◌, ℕ, ◌<◌, ℤ, pos, ◌-ℤ◌, ◌≤ℤ◌, ◌<ℤ◌, ◌==◌, List, Bool, true, int_le, int_lt, map}
 use Rattle.geom.specs.Device.{pixel_centre}
 use Rattle.geom.specs.Edge.{EdgeEnds, crosses_at_or_left}
 use Rattle.geom.specs.EvenOdd.{edge_between, is_covered}
 use Rattle.geom.specs.Laws.{is_one_of}
-use Rattle.geom.specs.World.{Place, Area}
+use Rattle.geom.specs.World.{Place, Area, IsExtent}
 use Rattle.clip.specs.EdgeClass.{first_row}
 use Rattle.scanfill.specs.Flips.{is_pixel_flipped}
-use Rattle.viewport.specs.View.{ViewValue, device_point}
-use Rattle.vertices.specs.Chain.{chain_edges}
+use Rattle.viewport.specs.View.{ViewValue, device_point, sixteenths}
+use Rattle.vertices.specs.Chain.{HasChain, chain_edges, chain_end}
 use Rattle.canvas.specs.Latitudes.{row_of}
 use Rattle.fills.specs.declared.run.Corner.{Corner}
 use Rattle.fills.specs.declared.run.Run.{Run}
@@ -48,6 +48,21 @@ is_right view box = int_lt view.area.maxx box.minx
 -- a box lies left of the view, or reaches to its left side
 abbrev pub is_left : ViewValue → Area → Bool
 is_left view box = int_le box.maxx view.area.minx
+
+-- the first column whose pixel centres lie at a longitude or right of it, or the picture's width: counted from the left as rows are from the top
+abbrev pub column_of : ViewValue → ℤ → ℕ
+column_of view longitude = first_row (sixteenths view.width (longitude -ℤ view.area.minx) (view.area.maxx -ℤ view.area.minx)) view.width
+
+-- no pixel centre of the picture lies between the west side of a box and its east side
+abbrev pub is_in_column : ViewValue → Area → Bool
+is_in_column view box = column_of view box.minx == column_of view box.maxx
+
+-- the law: a chain of vertices in a box between the pixel centres of two columns covers what its chord covers, in however many rows
+abbrev pub ChainsInAColumnCoverLikeTheirChord : Type 0
+ChainsInAColumnCoverLikeTheirChord = (view : ViewValue) (box : Area) (from : Place) (rest : List Place) (i j : ℕ) → IsExtent view.area → HasChain box from rest → is_in_column view box ≡ true →
+    i < view.width →
+    is_covered (chain_edges (device_point view from) (map (device_point view) rest)) (pixel_centre (pos i) (pos j))
+    ≡ crosses_at_or_left (pixel_centre (pos i) (pos j)) (edge_between (device_point view from, device_point view (chain_end from rest)))
 
 -- by the new flips those pixels lie inside that either do by the old ones or the edges of a chain cover, and not both
 abbrev pub AddsChain : ViewValue → List ℕ → Place → List Place → List ℕ → Type 0

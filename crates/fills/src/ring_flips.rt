@@ -123,7 +123,7 @@ fn add_blocks(flips: &mut Flips, rows: &RowFinder<'_>, ring: &Part) -> Result<()
 }
 
 // Adds the flips of a block. It adds none if the block's box lies between the latitudes of the run or right of the
-// picture, those of its chord if the box lies left of the picture, else those of all its edges.
+// picture, those of its chord if the box lies left of the picture or within one column, else those of all its edges.
 fn add_block(
     flips: &mut Flips,
     rows: &RowFinder<'_>,
@@ -148,6 +148,9 @@ fn add_block(
         return Ok(rows.begin(last, rows.row_of(last.y())));
     }
     if rows.is_left(block.area) {
+        return Ok(go_on(flips, rows, run, last)?);
+    }
+    if rows.is_in_column(block.area) {
         return Ok(go_on(flips, rows, run, last)?);
     }
     add_vertices(flips, rows, run, block.vertices)
@@ -178,7 +181,9 @@ fn add_vertices(
     Ok(run)
 }
 
-// Goes on to the next vertex. It adds the flips of the edge to it, if that crosses a row.
+// Goes on to the next vertex. It adds the flips of the edge to it, if that crosses a row. Inlined, since a call hands the
+// run's 40 bytes through memory.
+#[inline(always)]
 fn go_on(flips: &mut Flips, rows: &RowFinder<'_>, run: Run, to: World) -> Result<Run, FlipFault>
     requires width { flips.old.width ≡ rows.now.width }
     requires height { flips.old.height ≡ rows.now.height }

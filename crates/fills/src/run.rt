@@ -1,7 +1,7 @@
 ghost use Rattle.std.specs.Prelude.{◌≡◌, ◌&&◌, int_le};
 ghost use Rattle.geom.specs.World.{IsExtent};
 ghost use Rattle.clip.specs.EdgeClass.{first_row};
-ghost use Rattle.fills.specs.Flipped.{is_left, is_right, IsCorner, IsRun};
+ghost use Rattle.fills.specs.Flipped.{column_of, is_in_column, is_left, is_right, IsCorner, IsRun};
 ghost use Rattle.canvas.specs.Latitudes.{row_of};
 
 use canvas::{Band, RowLatitudes, row_at};
@@ -83,6 +83,8 @@ impl<'a> RowFinder<'a> {
     }
 
     /// The vertex of a ring at a place.
+    // Inlined, since a call hands the corner's 48 bytes through memory.
+    #[inline(always)]
     pub fn corner(&self, from: World) -> Corner
         ensures from { result.from ≡ from }
         ensures corner { IsCorner self.now result }
@@ -134,6 +136,23 @@ impl<'a> RowFinder<'a> {
         ensures limits { IsExtent self.now.area }
     {
         area.maxx().get().millionths() <= self.projection.area().minx().millionths()
+    }
+
+    /// Whether no pixel centre of the picture lies between the west side of a box and its east side. A chain of vertices
+    /// in it adds the flips of its chord.
+    pub fn is_in_column(&self, area: BlockBox) -> bool
+        ensures value { result ≡ is_in_column self.now area }
+        ensures limits { IsExtent self.now.area }
+    {
+        let _area = self.projection.area();
+        self.column_of(area.minx()) == self.column_of(area.maxx())
+    }
+
+    // The first column whose pixel centres lie at that longitude or right of it, or the picture's width.
+    fn column_of(&self, longitude: Coordinate) -> u16
+        ensures { result ≡ column_of self.now longitude }
+    {
+        first_row(self.projection.across(longitude), self.projection.width())
     }
 }
 

@@ -81,6 +81,7 @@ impl<'a> Pen<'a> {
     /// since a step within it covers no pixel. Else it is places of the place's pixel if the width
     /// is odd, since a step between them covers the square round it alone. Else it is the place
     /// alone.
+    #[inline(always)]
     pub fn quiet_at(&self, place: World, at: Device) -> WorldBox
         requires { at ≡ device_point self.now.view place }
         ensures has { has_place result place ≡ true }

@@ -191,7 +191,9 @@ fn begin(canvas: &mut Canvas, pen: &Pen<'_>, first: World) -> Trail
     }
 }
 
-// Goes on to the next vertex: paints the segment to it and the square round it.
+// Goes on to the next vertex: paints the segment to it and the square round it. Inlined with what it calls, since a call
+// hands trails and boxes through memory.
+#[inline(always)]
 fn go_on(canvas: &mut Canvas, pen: &Pen<'_>, trail: &Trail, to: World) -> Result<Trail, AllocError>
     requires sides { IsOf pen.now canvas.old }
     requires trail { IsTrail pen.now canvas.old trail.now }
@@ -212,6 +214,7 @@ fn go_on(canvas: &mut Canvas, pen: &Pen<'_>, trail: &Trail, to: World) -> Result
 
 // Paints a step whose first square is already painted. A short segment of an odd width adds nothing to the squares round
 // its ends.
+#[inline(always)]
 fn paint_step(
     canvas: &mut Canvas,
     pen: &Pen<'_>,

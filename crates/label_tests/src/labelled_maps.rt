@@ -9,7 +9,7 @@ use crate::worked_labels::set;
 use geom::World;
 use mapdefs::{
     Class, ClassFields, Feature, FeatureFields, Font, Geometry, Items, Label, Layer, LayerFields,
-    Map, Part, Rgb, Rule, Shared, SharedItems, Style, StyleFields, Text,
+    Map, Part, PartList, Rgb, Rule, Shared, SharedItems, Style, StyleFields, Text, Texts, Values,
 };
 use std::alloc::{AllocError, Global};
 use test_maps::{layer_fields, map_fields, place};
@@ -124,28 +124,23 @@ fn part_of(alloc: Global, text: &str, unit: Unit) -> Result<Part, AllocError>
 fn feature_of(
     alloc: Global,
     part: Part,
-    text: Option<Text>,
+    text: Option<Shared<Text>>,
     value: Text,
-) -> Result<Shared<Feature>, AllocError>
+) -> Result<Feature, AllocError>
     requires { length part ≤ 8 }
     ensures { IfOk result (HasValues 1) }
 {
-    let mut parts = Items::new(alloc);
-    parts.push(part)?;
-    let mut values = Items::new(alloc);
-    values.push(value)?;
-    Shared::new(
-        alloc,
-        Feature::new(FeatureFields {
-            parts,
-            text,
-            values,
-        }),
-    )
+    let mut values = Texts::new(alloc);
+    values.push(value.as_str())?;
+    Ok(Feature::new(FeatureFields {
+        parts: PartList::one(part),
+        text,
+        values: Values::all_of(alloc, values)?,
+    }))
 }
 
 // A feature of a row: its own text, `-` for none, the value of the layer's item, and its vertices.
-fn feature(alloc: Global, row: &str, unit: Unit) -> Result<Shared<Feature>, AllocError>
+fn feature(alloc: Global, row: &str, unit: Unit) -> Result<Feature, AllocError>
     ensures { IfOk result (HasValues 1) }
 {
     let (code, row) = row.split_once(' ').ok_or(AllocError)?;
@@ -156,16 +151,12 @@ fn feature(alloc: Global, row: &str, unit: Unit) -> Result<Shared<Feature>, Allo
     if code == "-" {
         feature_of(alloc, part, None, value)
     } else {
-        feature_of(alloc, part, Some(text), value)
+        feature_of(alloc, part, Some(Shared::new(alloc, text)?), value)
     }
 }
 
 // The two features of a list, or the only one.
-fn features_of(
-    alloc: Global,
-    list: &str,
-    unit: Unit,
-) -> Result<SharedItems<Shared<Feature>>, AllocError>
+fn features_of(alloc: Global, list: &str, unit: Unit) -> Result<SharedItems<Feature>, AllocError>
     ensures values { IfOk result (All (HasValues 1)) }
     ensures count { IfOk result (λ features. length features ≤ 2) }
 {

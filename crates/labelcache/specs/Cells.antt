@@ -30,10 +30,10 @@ pub record IsWithin (point : GridPoint) : Type 0 where
   pub column : point.column < 2 ^ 33
   pub row : point.row < 2 ^ 33
 
--- a cell lies within such columns and rows
+-- a cell lies within twice as many columns and rows
 pub record IsCell (cell : Cell) : Type 0 where
-  pub column : (cell.column + 1) * 2 ^ cell.level ≤ 2 ^ 33
-  pub row : (cell.row + 1) * 2 ^ cell.level ≤ 2 ^ 33
+  pub column : (cell.column + 1) * 2 ^ cell.level ≤ 2 ^ 34
+  pub row : (cell.row + 1) * 2 ^ cell.level ≤ 2 ^ 34
 
 -- how far apart two columns, or rows, are
 abbrev pub apart : ℕ → ℕ → ℕ
@@ -51,9 +51,9 @@ cell_cmp a b = ordering_then (nat_cmp a.0 b.0) (ordering_then (nat_cmp a.1.0 b.1
 abbrev pub has : BTreeSet (ℕ × (ℕ × ℕ)) → Cell → Bool
 has marked cell = contains cell_cmp marked (cell.level, (cell.column, cell.row))
 
--- the cells of all levels that contain a point are marked
+-- the cells of all levels, up to the highest one, that contain a point are marked
 abbrev pub IsMarked : BTreeSet (ℕ × (ℕ × ℕ)) → GridPoint → Type 0
-IsMarked marked point = (level : ℕ) → level ≤ 33 → IsTrue (has marked (cell_of level point))
+IsMarked marked point = (level : ℕ) → level ≤ 17 → IsTrue (has marked (cell_of level point))
 
 -- a cell of the lowest level is marked, and its one point is nearer to another than a distance
 pub record HasNearPoint (marked : BTreeSet (ℕ × (ℕ × ℕ))) (point : GridPoint) (distance : ℕ) : Type 0 where

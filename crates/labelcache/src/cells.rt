@@ -1,4 +1,4 @@
-ghost use Rattle.std.specs.Prelude.{◌≡◌, ◌⊎◌, ℕ, ◌<◌, ◌≤◌, ◌+◌, ◌^◌, IsTrue, OnOk, OnErr};
+ghost use Rattle.std.specs.Prelude.{◌≡◌, ◌⊎◌, ℕ, ◌<◌, ◌≤◌, ◌+◌, ◌*◌, ◌/◌, ◌^◌, IsTrue, OnOk, OnErr};
 ghost use Rattle.geom.specs.Range.{IsBelow};
 ghost use Rattle.labelcache.specs.Candidate.{IsAnchor};
 ghost use Rattle.labelcache.specs.Cells.{HasNearPoint, IsCell, IsMarked, IsPointNear, IsWithin, apart, cell_of, child_of, has, offset, point_of};
@@ -8,8 +8,8 @@ use geom::Pixel;
 use std::alloc::{AllocError, Global};
 use std::collections::BTreeSet;
 
-// The level of the cell that contains all anchors. Its sides have 2^33 pixels.
-const TOP: u8 = 33;
+// The highest level of cells. A side of its cells, 2^17 pixels, is more than twice each distance.
+const TOP: u8 = 17;
 
 /// A column and a row of an anchor, counted from 2^32 before the picture's first.
 #[derive(Clone, Copy)]
@@ -52,7 +52,7 @@ pub fn point_of(anchor: Pixel) -> GridPoint
 
 // The cell of a level that contains a point.
 fn cell_of(level: u8, point: GridPoint) -> Cell
-    requires { level ≤ 33 }
+    requires { level ≤ 17 }
     ensures { result ≡ cell_of level point }
 {
     Cell {
@@ -67,8 +67,8 @@ fn child_of(cell: Cell, right: u64, down: u64) -> Cell
     requires level { 0 < cell.level }
     requires right { right ≤ 1 }
     requires down { down ≤ 1 }
-    requires columns { cell.column ≤ 2 ^ 33 }
-    requires rows { cell.row ≤ 2 ^ 33 }
+    requires columns { cell.column ≤ 2 ^ 34 }
+    requires rows { cell.row ≤ 2 ^ 34 }
     requires cell { IsCell cell }
     ensures value { result ≡ child_of cell right down }
     ensures within { IsCell result }
@@ -110,7 +110,7 @@ pub fn mark_point(marked: &mut Marked, point: GridPoint) -> Result<(), AllocErro
 // Marks the cells of all levels but the lowest that contain a point.
 fn mark_above(marked: &mut Marked, point: GridPoint) -> Result<(), AllocError>
     ensures grows { (q : Cell) → IsTrue (has marked.old q) → IsTrue (has marked.new q) }
-    ensures done { OnOk result ((level : ℕ) → 0 < level → level ≤ 33 → IsTrue (has marked.new (cell_of level point))) }
+    ensures done { OnOk result ((level : ℕ) → 0 < level → level ≤ 17 → IsTrue (has marked.new (cell_of level point))) }
     ensures only { (q : Cell) → q.level ≡ 0 → IsTrue (has marked.new q) → IsTrue (has marked.old q) }
 {
     let mut level = TOP;
@@ -123,10 +123,10 @@ fn mark_above(marked: &mut Marked, point: GridPoint) -> Result<(), AllocError>
 
 // How many pixels a side of a cell has.
 fn side_of(level: u8) -> u64
-    requires { level ≤ 33 }
+    requires { level ≤ 17 }
     ensures value { result ≡ 2 ^ level }
     ensures least { 1 ≤ result }
-    ensures most { result ≤ 2 ^ 33 }
+    ensures most { result ≤ 2 ^ 17 }
 {
     2_u64.pow(u32::from(level))
 }
@@ -150,7 +150,7 @@ fn gap(first: u64, side: u64, at: u64) -> u64
 
 // Whether a cell may contain a point that is nearer to another than a distance.
 fn may_be_near(cell: Cell, point: GridPoint, distance: u16) -> bool
-    requires level { cell.level ≤ 33 }
+    requires level { cell.level ≤ 17 }
     requires cell { IsCell cell }
     requires point { IsWithin point }
     ensures complete { (p : GridPoint) → cell ≡ cell_of cell.level p → IsPointNear point distance p → IsTrue result }
@@ -172,7 +172,7 @@ fn has(marked: &Marked, cell: Cell) -> bool
 // Whether a cell contains a marked point that is nearer to another than a distance. A cell that is too far is skipped
 // with all that it contains.
 fn finds(marked: &Marked, cell: Cell, point: GridPoint, distance: u16) -> bool
-    requires level { cell.level ≤ 33 }
+    requires level { cell.level ≤ 17 }
     requires cell { IsCell cell }
     requires point { IsWithin point }
     ensures sound { IsTrue result → HasNearPoint marked.now point distance }
@@ -196,16 +196,64 @@ fn finds(marked: &Marked, cell: Cell, point: GridPoint, distance: u16) -> bool
     finds(marked, child_of(cell, 1, 1), point, distance)
 }
 
-/// Whether a marked point is nearer to another than a distance.
+// The columns, or rows, of cells of the highest level around a point, which may be one.
+#[derive(Clone, Copy)]
+struct Neighbours {
+    first: u64,
+    last: u64,
+}
+
+// The columns, or rows, of cells of the highest level that contain all that is nearer to a column, or a row, than a distance.
+fn around(at: u64, distance: u16) -> Neighbours
+    requires { at < 2 ^ 33 }
+    ensures has { (x : ℕ) → apart at x < distance → (x / 2 ^ 17 ≡ result.first) ⊎ (x / 2 ^ 17 ≡ result.last) }
+    ensures first { (result.first + 1) * 2 ^ 17 ≤ 2 ^ 34 }
+    ensures last { (result.last + 1) * 2 ^ 17 ≤ 2 ^ 34 }
+{
+    let distance = u64::from(distance);
+    Neighbours {
+        first: at.saturating_sub(distance) >> TOP,
+        last: (at + distance) >> TOP,
+    }
+}
+
+// Whether a cell of the highest level in a row of them contains a marked point that is nearer to another than a distance.
+fn row_finds(marked: &Marked, row: u64, point: GridPoint, distance: u16) -> bool
+    requires row { (row + 1) * 2 ^ 17 ≤ 2 ^ 34 }
+    requires point { IsWithin point }
+    ensures sound { IsTrue result → HasNearPoint marked.now point distance }
+    ensures complete { (p : GridPoint) → IsMarked marked.now p → p.row / 2 ^ 17 ≡ row → IsPointNear point distance p → IsTrue result }
+{
+    let columns = around(point.column, distance);
+    let first = Cell {
+        level: TOP,
+        column: columns.first,
+        row,
+    };
+    if finds(marked, first, point, distance) {
+        return true;
+    }
+    if columns.last == columns.first {
+        return false;
+    }
+    let last = Cell {
+        level: TOP,
+        column: columns.last,
+        row,
+    };
+    finds(marked, last, point, distance)
+}
+
+/// Whether a marked point is nearer to another than a distance. The search begins at the cells of the highest level around the point, of
+/// which there are at most four.
 pub fn has_near(marked: &Marked, point: GridPoint, distance: u16) -> bool
     requires { IsWithin point }
     ensures sound { IsTrue result → HasNearPoint marked.now point distance }
-    ensures complete { (p : GridPoint) → IsWithin p → IsMarked marked.now p → IsPointNear point distance p → IsTrue result }
+    ensures complete { (p : GridPoint) → IsMarked marked.now p → IsPointNear point distance p → IsTrue result }
 {
-    let all = Cell {
-        level: TOP,
-        column: 0,
-        row: 0,
-    };
-    finds(marked, all, point, distance)
+    let rows = around(point.row, distance);
+    if row_finds(marked, rows.first, point, distance) {
+        return true;
+    }
+    rows.last != rows.first && row_finds(marked, rows.last, point, distance)
 }

@@ -6,8 +6,8 @@ use compose::picture;
 use geom::{Micro, NUMBER_LIMIT, PictureSide, World, WorldBox};
 use mapdefs::{
     AllFeatures, Class, ClassFields, Feature, FeatureFields, Geometry, Items, Layer, LayerFields,
-    MAX_VERTICES, Map, Part, Picture, Rgb, Rule, Shared, SharedItems, Style, StyleFields, Symbol,
-    Text,
+    MAX_VERTICES, Map, Part, PartList, Picture, Rgb, Rule, SharedItems, Style, StyleFields, Symbol,
+    Text, Values,
 };
 use scaledenom::Scale;
 use std::alloc::{AllocError, Global};
@@ -153,14 +153,14 @@ fn ring(alloc: Global, text: &str) -> Result<Part, AllocError>
 }
 
 /// A feature of these rings.
-fn feature_of(alloc: Global, parts: Items<Part>) -> Feature
+fn feature_of(parts: PartList) -> Feature
     requires { sum_by length parts ≤ MAX_VERTICES }
     ensures { result.values ≡ [] }
 {
     Feature::new(FeatureFields {
         parts,
         text: None,
-        values: Items::new(alloc),
+        values: Values::none(),
     })
 }
 
@@ -179,7 +179,7 @@ fn feature(alloc: Global, text: &str) -> Result<Feature, AllocError>
     for text in rings.as_slice() {
         parts.push(ring(alloc, text)?)?;
     }
-    Ok(feature_of(alloc, parts))
+    Ok(feature_of(PartList::of(alloc, parts)?))
 }
 
 fn kind_of(code: &str) -> Option<Geometry> {
@@ -211,7 +211,7 @@ fn layer_of(
     kind: Geometry,
     bounds: Bounds,
     classes: SharedItems<Class>,
-    features: SharedItems<Shared<Feature>>,
+    features: SharedItems<Feature>,
 ) -> Layer
     requires feature { length features ≡ 1 }
     requires values { All (λ f. f.values ≡ []) features }

@@ -1,6 +1,7 @@
 -- The column of an edge is the least that it crosses in.
 use Rattle.std.proofs.Common.{◌≡◌, ◌∙◌, ℕ, ◌^◌, Bool, true, false, if◌then◌else◌, ◌+◌, refl, sym, ap, arith}
 use Rattle.std.proofs.lemmas.Int.{ints}
+use Rattle.std.specs.Int.{int_div_euclid}
 use Rattle.std.specs.Prelude.{int_le}
 use lib.IntN.{ℤ, pos, neg_ℤ, ◌+ℤ◌, ◌-ℤ◌, ◌*ℤ◌}
 use lib.Signed.{◌≤ℤ◌}
@@ -66,3 +67,13 @@ column-below e j d h =
     sym (crosses-from e j left h)
     ∙ right-crosses e (pixel_centre left (pos j)) (omega (arith, ints, ends.0.across)) (omega (arith, ints, ends.1.across)) in
     record { above = omega (arith, ints, not_le_of (column_of e j) left misses); below = omega (arith, ints, le_of (column_of e j) right reaches) }
+
+-- an upright edge has one column in all rows
+pub upright-column : (e : EdgeEnds) (j k : ℕ) → run e ≡ pos 0 → column_of e j ≡ column_of e k
+unfolding column_of
+upright-column e j k upright = ap (λ r. neg_ℤ (int_div_euclid r (pos 16 *ℤ rise e))) (still j ∙ sym (still k))
+  where
+    still : (j : ℕ) → reach e j ≡ (pos 8 -ℤ (low_end e).x) *ℤ rise e
+    still j =
+        let none : (centre (pos j) -ℤ (low_end e).y) *ℤ run e ≡ pos 0 = rw upright (omega (arith, ints)) in
+        omega (arith, ints, none)

@@ -58,15 +58,7 @@ pub flips-more : (from row j old before new : ℕ) (s t : Bool) → from ≤ row
 flips-more from row j old before new s t le same e f =
     omega (arith, rows-step from row j t le, ap (λ b. cond {A = ℕ} b 1 0) (row-itself j row s t same))
 
--- the same of an edge left of the view
-pub left-more : (from row j old before new : ℕ) (s : Bool) → from ≤ row → s ≡ true →
-    before ≡ old + cond {A = ℕ} (has_row (record { from = from; to = row }) j) 1 0 → new ≡ before + cond {A = ℕ} (j == row && s) 1 0 →
-    new ≡ old + cond {A = ℕ} (has_row (record { from = from; to = row + 1 }) j) 1 0
-left-more from row j old before new s le hit e f =
-    let less = ap (λ b. cond {A = ℕ} b 1 0) (and-true (has_row (record { from = from; to = row }) j)) in
-    let more = ap (λ b. cond {A = ℕ} b 1 0) (and-true (has_row (record { from = from; to = row + 1 }) j)) in
-    omega (arith, less, more, flips-more from row j old before new s true le (λ _. hit) (omega arith) f)
-  where
-    and-true : (b : Bool) → (b && true) ≡ b
-    and-true true = refl
-    and-true false = refl
+-- a test beside one that holds
+pub and_right_true : (a b : Bool) → b ≡ true → (a && b) ≡ a
+and_right_true true b e = e
+and_right_true false b e = refl

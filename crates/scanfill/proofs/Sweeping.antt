@@ -12,6 +12,7 @@ use Rattle.geom.specs.Edge.{EdgeEnds}
 use Rattle.geom.specs.EvenOdd.{is_covered, is_odd}
 use Rattle.clip.specs.EdgeClass.{AreRowsOf, crosses_row, has_row}
 use Rattle.clip.specs.declared.rows.RowRange.{RowRange}
+use Rattle.scanfill.specs.Column.{CrossesRows}
 use Rattle.scanfill.specs.Crossing.{reaches}
 use Rattle.scanfill.specs.declared.crossing.Crossing.{Crossing}
 use Rattle.scanfill.specs.RowFlips.{flip_if, is_flipped}
@@ -30,6 +31,14 @@ rows-within e h rows r =
     and_from (nat_le rows.from j) (nat_lt j rows.to) (le-leb rows.from j (omega (arith, r.some))) (lt-ltb j rows.to (omega (arith, r.some))) in
     let below = and_parts (nat_lt j h) (crosses_row e j) (sym (r.all j) ∙ has) in
     omega (arith, r.some, ltb-true j h below.0)
+
+-- and each of them is crossed
+pub rows-crossed : (e : EdgeEnds) (h : ℕ) (rows : RowRange) → AreRowsOf e h rows → CrossesRows e rows.from rows.to
+rows-crossed e h rows r = record {
+  each = λ j least below.
+      let has : has_row rows j ≡ true = and_from (nat_le rows.from j) (nat_lt j rows.to) (le-leb rows.from j least) (lt-ltb j rows.to below) in
+      (and_parts (nat_lt j h) (crosses_row e j) (sym (r.all j) ∙ has)).1;
+}
 
 -- where no column flips no pixel is turned
 pub quiet-flipped : (n i : ℕ) → is_flipped (replicate n false) i ≡ false

@@ -73,6 +73,8 @@ impl Flips {
 
     /// Adds the flips of an edge: one in each of the rows that it crosses, which are known. After a fault some may have
     /// been added.
+    // Inlined, with what it calls for each row: a flip costs less than the calls.
+    #[inline(always)]
     pub fn add(&mut self, edge: Edge, rows: RowRange) -> Result<(), FlipFault>
         requires { rows ≡ rows_of edge self.old.height }
         ensures sides { self.new ≡ record self.old { flips = self.new.flips } }
@@ -81,7 +83,7 @@ impl Flips {
     {
         match classify_in(edge, rows, self.width, self.height) {
             EdgeClass::Drop => Ok(()),
-            EdgeClass::LeftOfView { rows } => self.add_left(rows),
+            EdgeClass::LeftOfView { rows } => self.add_column(rows, 0),
             EdgeClass::Walk { rows } => self.add_walked(edge, rows),
         }
     }
@@ -103,21 +105,23 @@ impl Flips {
         RowSpans::new(&self.indices, self.width, self.height)
     }
 
-    // Adds a flip at the start of each of the rows.
-    fn add_left(&mut self, rows: RowRange) -> Result<(), FlipFault>
+    // Adds the flips of each of the rows from a column on.
+    fn add_column(&mut self, rows: RowRange, column: i64) -> Result<(), FlipFault>
         requires some { rows.from < rows.to }
         requires within { rows.to ≤ self.old.height }
+        requires column { IsBelow (2 ^ 44) column }
         ensures sides { self.new ≡ record self.old { flips = self.new.flips } }
         ensures counts { OnOk result ((i j : ℕ) → i < self.old.width →
-            count_by (flips_by i j) self.new.flips ≡ count_by (flips_by i j) self.old.flips + cond (has_row rows j) 1 0) }
+            count_by (flips_by i j) self.new.flips ≡ count_by (flips_by i j) self.old.flips + cond (has_row rows j && int_le column (pos i)) 1 0) }
     {
         for row in rows.from..rows.to {
-            self.add_flip(row, 0)?;
+            self.add_flip(row, column)?;
         }
         Ok(())
     }
 
-    // Adds the flips of an edge that crosses the rows. For a single row it needs no slope.
+    // Adds the flips of an edge that crosses the rows. For a single row it needs no slope, and an upright edge has one
+    // column.
     fn add_walked(&mut self, edge: Edge, rows: RowRange) -> Result<(), FlipFault>
         requires some { rows.from < rows.to }
         requires within { rows.to ≤ self.old.height }
@@ -130,6 +134,9 @@ impl Flips {
         if rows.from + 1 == rows.to {
             return self.add_flip(rows.from, column(edge, rows.from));
         }
+        if edge.run() == 0 {
+            return self.add_column(rows, column(edge, rows.from));
+        }
         let mut walk = EdgeWalk::start(edge, rows, &mut Work::new());
         for row in rows.from..rows.to - 1 {
             self.add_flip(row, walk.column())?;
@@ -139,6 +146,7 @@ impl Flips {
     }
 
     // Adds the flip of a row from a column on. A column below 0 is the first one, and one past the end adds none.
+    #[inline(always)]
     fn add_flip(&mut self, row: u16, column: i64) -> Result<(), FlipFault>
         requires row { row < self.old.height }
         ensures sides { self.new ≡ record self.old { flips = self.new.flips } }

@@ -1,11 +1,10 @@
 ghost use Rattle.std.specs.Prelude.{◌≡◌, ◌<◌, ◌^◌, true, pos, neg_ℤ, ◌-ℤ◌, ◌*ℤ◌, ◌<ℤ◌};
 ghost use Rattle.std.specs.Int.{int_div_euclid};
-ghost use Rattle.geom.specs.Device.{centre};
 ghost use Rattle.geom.specs.Range.{IsBelow};
 ghost use Rattle.geom.specs.declared.side.TheConstants.{MAX_PICTURE_SIDE};
 ghost use Rattle.scanfill.specs.Column.{reach};
 
-use geom::Edge;
+use geom::{Edge, row_centre};
 
 /// Where an edge crosses a row.
 #[derive(Clone, Copy)]
@@ -88,17 +87,8 @@ fn reach(edge: Edge, row: u16) -> i128
 {
     let low = edge.low_end();
     let right = product(difference(8, low.x()), edge.rise());
-    let down = product(difference(centre(row), low.y()), edge.run());
+    let down = product(difference(row_centre(row), low.y()), edge.run());
     minus(right, down)
-}
-
-// The y of the pixel centres of a row.
-fn centre(row: u16) -> i64
-    requires { row < MAX_PICTURE_SIDE }
-    ensures value { result ≡ centre (pos row) }
-    ensures range { IsBelow (2 ^ 47) result }
-{
-    16 * i64::from(row) + 8
 }
 
 // The difference of two coordinates.

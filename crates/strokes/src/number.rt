@@ -1,17 +1,6 @@
-ghost use Rattle.std.specs.Prelude.{◌≡◌, ◌<◌, ◌≤◌, ◌*◌, ◌^◌, pos, ◌+ℤ◌, ◌-ℤ◌, ◌*ℤ◌, neg_ℤ};
-ghost use Rattle.geom.specs.Device.{centre};
+ghost use Rattle.std.specs.Prelude.{◌≡◌, ◌≤◌, ◌*◌, ◌^◌, pos, ◌+ℤ◌, ◌-ℤ◌, ◌*ℤ◌, neg_ℤ};
 ghost use Rattle.geom.specs.Range.{IsBelow};
-ghost use Rattle.geom.specs.declared.side.TheConstants.{MAX_PICTURE_SIDE};
 ghost use Rattle.mapdefs.specs.declared.limits.TheConstants.{MAX_LINE_WIDTH};
-
-/// The y of the pixel centres of a row.
-pub fn centre(row: u16) -> i64
-    requires { row < MAX_PICTURE_SIDE }
-    ensures value { result ≡ centre (pos row) }
-    ensures range { IsBelow (2 ^ 47) result }
-{
-    16 * i64::from(row) + 8
-}
 
 /// The difference of two coordinates.
 pub fn difference(a: i64, b: i64) -> i64

@@ -9,7 +9,7 @@ ghost use Rattle.strokes.specs.Strip.{IsStrip, is_small, is_small_point, reached
 
 use crate::segment::turned_edge;
 use crate::steps::Steps;
-use geom::{Device, Edge};
+use geom::{Device, Edge, row_centre};
 use scanfill::Span;
 use std::marker::Model;
 
@@ -167,7 +167,7 @@ fn reached(edge: Edge, width: u8, row: u16) -> i64
     less_all(
         product(half(width), edge.rise()),
         product(apart(8, low.x()), edge.rise()),
-        product(apart(centre(row), low.y()), edge.run()),
+        product(apart(row_centre(row), low.y()), edge.run()),
     )
 }
 
@@ -178,15 +178,6 @@ fn half(width: u8) -> i64
     ensures range { IsBelow (2 ^ 25) result }
 {
     8 * i64::from(width)
-}
-
-// The y of the pixel centres of a row.
-fn centre(row: u16) -> i64
-    requires { row < MAX_PICTURE_SIDE }
-    ensures value { result ≡ centre (pos row) }
-    ensures range { IsBelow (2 ^ 24) result }
-{
-    16 * i64::from(row) + 8
 }
 
 // The difference of two small numbers.

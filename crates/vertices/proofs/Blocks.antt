@@ -15,12 +15,12 @@ chain-drop (suc n) from [] h = absurd (omega (arith, h))
 chain-drop (suc n) from (to ∷ rest) h = chain-drop n to rest (omega (arith, h))
 
 -- the next block of a part begins with the last vertex of this one
-pub block-next : {X : Type 0} (vertices : List X) (k : ℕ) (from end : X) (rest behind : List X) → 64 * k < length vertices → from ∷ rest ≡ drop (64 * k) vertices →
-    end ≡ chain_end from (take 64 rest) → behind ≡ drop 64 rest → 64 * (k + 1) < length vertices → end ∷ behind ≡ drop (64 * (k + 1)) vertices
+pub block-next : {X : Type 0} (vertices : List X) (k : ℕ) (from end : X) (rest behind : List X) → 32 * k < length vertices → from ∷ rest ≡ drop (32 * k) vertices →
+    end ≡ chain_end from (take 32 rest) → behind ≡ drop 32 rest → 32 * (k + 1) < length vertices → end ∷ behind ≡ drop (32 * (k + 1)) vertices
 block-next vertices k from end rest behind here e f g next =
-    let enough : 64 ≤ length rest = omega (arith, next, ap length e, length-drop (64 * k) vertices) in
-    let on : 64 * k + 64 ≡ 64 * (k + 1) = omega arith in
-    ap (λ x. x ∷ behind) f ∙ (ap (λ xs. chain_end from (take 64 rest) ∷ xs) g ∙ (chain-drop 64 from rest enough ∙ (ap (drop 64) e ∙ (drop-drop 64 (64 * k) vertices ∙ ap (λ n. drop n vertices) on))))
+    let enough : 32 ≤ length rest = omega (arith, next, ap length e, length-drop (32 * k) vertices) in
+    let on : 32 * k + 32 ≡ 32 * (k + 1) = omega arith in
+    ap (λ x. x ∷ behind) f ∙ (ap (λ xs. chain_end from (take 32 rest) ∷ xs) g ∙ (chain-drop 32 from rest enough ∙ (ap (drop 32) e ∙ (drop-drop 32 (32 * k) vertices ∙ ap (λ n. drop n vertices) on))))
 
 -- the last of some vertices is the end of the chain along them
 pub last-end : {X : Type 0} (n : ℕ) (from : X) (rest : List X) (last : X) → n + 1 ≡ length rest → last ≡ get_or rest n last → last ≡ chain_end from rest

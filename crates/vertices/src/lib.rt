@@ -7,7 +7,7 @@
 //! and feature information whole features.
 //!
 //! Terms: a *chain* is a vertex and those that follow on it, and its *chord* the edge from the first to the last. A *block*
-//! of a part is a chain of up to 64 edges, and its box has all of its vertices.
+//! of a part is a chain of up to 32 edges, and its box has all of its vertices.
 #![tactic(auto)]
 
 mod chain;

@@ -14,7 +14,7 @@ loop-index-preserved c =
     let features = c.args.layer.now.features in
     let classified = classified_feature scene.scale c.args.layer.now in
     let inside : index < length features = All-get_or (λ k. k < length features) c.args.found.now c.loop-index.index-index 0 c.loop-index-test.true c.requires in
-    let added = rw (c.get-in-loop-index.ensures.value, c.get.ensures) at c.in_ok-add_feature.ensures in
+    let added = rw c.get.ensures.value at c.in_ok-add_feature.ensures in
     labelled-next (given_at classified features) candidates c.args.found.now c.loop-index.index-index index c.args.labels.now c.loop-index.labels _
     c.loop-index-test.true (sym (get_or_default_zero c.args.found.now c.loop-index.index-index index c.loop-index-test.true)) c.loop-index.invariant
     (labelled-at classified candidates features index c.index-features-index.result _ _ inside (rw c.as_slice-features.ensures at c.index-features-index.is) added)

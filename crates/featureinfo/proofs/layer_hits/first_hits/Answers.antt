@@ -44,7 +44,7 @@ loop-index-preserved c =
     ∙ ap (λ h. nearby_of scene.view.width h layer.tolerance c.args.asked.column c.args.asked.row) (c.height.ensures ∙ ap (λ (v : ViewValue). v.height) c.projection-projection.ensures) in
     let rises : AllPairs (λ a b. a < b) (take i found ++ drop i found) = subst (λ (fs : List ℕ). AllPairs (λ a b. a < b) fs) (sym (take-append-drop i found)) (AllPairs-from_increasing found c.requires.rising) in
     let next : Contains (drop i found) index = subst (λ (fs : List ℕ). Contains fs index) (sym (drop-cons found i 0 c.loop-index-test.true)) (here index (drop (suc i) found)) in
-    let says = rw (c.get-feature.ensures.value, c.get.ensures) at c.in_ok-is_classed_near.ensures in
+    let says = rw c.get-feature.ensures.value at c.in_ok-is_classed_near.ensures in
     elim c.if-branch.branch [
       | then-branch+in_ok-push w ↦ rw (one, w.hits-is, w.in_ok-push.ensures.items)
           (adds wanted c.args.asked.count (take i found) (drop i found) c.loop-index.hits.items index rises next c.loop-index.invariant (omega (arith, c.if-len-asked.false, c.len.ensures))

@@ -20,9 +20,9 @@ returns-then-block_reaches c =
 pub loop-area-preserved : goal.loop-area-preserved
 loop-area-preserved c =
     let l = c.loop-area in
-    let on : 64 * l.area-index + 64 ≡ 64 * (l.area-index + 1) = omega arith in
+    let on : 32 * l.area-index + 32 ≡ 32 * (l.area-index + 1) = omega arith in
     record {
-      here = c.split_block.ensures.behind ∙ (ap (drop 64) l.invariant.here ∙ (drop-drop 64 (64 * l.area-index) c.args.part.now ∙ ap (λ n. drop n c.args.part.now) on));
+      here = c.split_block.ensures.behind ∙ (ap (drop 32) l.invariant.here ∙ (drop-drop 32 (32 * l.area-index) c.args.part.now ∙ ap (λ n. drop n c.args.part.now) on));
       reach = passed-over c.args.projection.now _ c.args.side l.left.now c.split_block.result.0.now c.split_block.result.1.now c.split_block.ensures.block c.split_block.ensures.behind
           (sym c.block_reaches.ensures ∙ c.if-block_reaches.false) ∙ l.invariant.reach;
     }

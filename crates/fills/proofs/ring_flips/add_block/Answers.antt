@@ -3,7 +3,7 @@ use Rattle.std.proofs.lemmas.Bool.{and_parts}
 use Rattle.std.specs.Prelude.{int_le}
 use Rattle.geom.specs.World.{Place}
 use Rattle.fills.specs.Flipped.{AddsEdge, IsRun}
-use Rattle.fills.proofs.Skipping.{IsOver, by-chord, right-of, within-run}
+use Rattle.fills.proofs.Skipping.{IsOver, by-chord, in-column, right-of, within-run}
 use Rattle.fills.proofs.ring_flips.add_block.Goals as goal
 
 -- a block between the two latitudes of the run
@@ -29,3 +29,9 @@ returns-then-is_left-clause-adds c =
     by-chord c.args.rows.now c.args.block.now.area c.args.run.from c.args.block.now.vertices.now c.args.flips.now.flips c.go_on.new.flips.flips c.is_left.ensures.limits c.requires.has
     (sym c.is_left.ensures.value ∙ c.if-is_left.true)
     (subst (λ (p : Place). AddsEdge c.args.rows.now c.args.flips.now.flips c.args.run.from p c.go_on.new.flips.flips) c.last_of-last.ensures c.in_ok-go_on.ensures.edge)
+
+pub returns-then-is_in_column-clause-adds : goal.returns-then-is_in_column-clause-adds
+returns-then-is_in_column-clause-adds c =
+    in-column c.args.rows.now c.args.block.now.area c.args.run.from c.args.block.now.vertices.now c.args.flips.now.flips c.go_on-then-is_in_column.new.flips.flips c.is_in_column.ensures.limits c.requires.has
+    (sym c.is_in_column.ensures.value ∙ c.if-is_in_column.true)
+    (subst (λ (p : Place). AddsEdge c.args.rows.now c.args.flips.now.flips c.args.run.from p c.go_on-then-is_in_column.new.flips.flips) c.last_of-last.ensures c.in_ok-go_on-2.ensures.edge)

@@ -33,7 +33,7 @@ pub add_block-requires-clause-has : goal.add_block-requires-clause-has
 add_block-requires-clause-has c =
     let l = c.loop-area in
     let boxes = c.boxes-area-items.ensures in
-    let below : 64 * l.area-index < length c.args.ring.now = omega (arith, c.loop-area-test.true, boxes.count) in
+    let below : 32 * l.area-index < length c.args.ring.now = omega (arith, c.loop-area-test.true, boxes.count) in
     rw c.split_block.ensures.block (block-has c.args.ring.now c.boxes-area-items.result.now l.area-index c.area-item.result l.run.from l.left.now boxes c.loop-area-test.true c.area-item.is
     (l.invariant.here below))
 
@@ -44,14 +44,14 @@ loop-area-preserved c =
     let ring = c.args.ring.now in
     let split = c.split_block.ensures in
     let next = c.in_ok-run.ensures in
-    let below : 64 * l.area-index < length ring = omega (arith, c.loop-area-test.true, c.boxes-area-items.ensures.count) in
-    let parted : l.left.now ≡ c.split_block.result.0.now ++ c.split_block.result.1.now = rw (split.block, split.behind) (sym (take-append-drop 64 l.left.now)) in
+    let below : 32 * l.area-index < length ring = omega (arith, c.loop-area-test.true, c.boxes-area-items.ensures.count) in
+    let parted : l.left.now ≡ c.split_block.result.0.now ++ c.split_block.result.1.now = rw (split.block, split.behind) (sym (take-append-drop 32 l.left.now)) in
     record {
       sides = search (rules, next.sides, l.invariant.sides);
       edges = ring-block view c.args.flips.now.flips l.flips.flips c.add_block.new.flips.flips (ring_edges (map (device_point view) ring)) c.in-Some.first.now l.run.from c.in_ok-run.run'.from
           l.left.now c.split_block.result.0.now c.split_block.result.1.now parted next.from l.invariant.edges next.adds;
       valid = next.run;
-      rest = omega (arith, ap length split.behind, length-drop 64 l.left.now, l.invariant.rest);
+      rest = omega (arith, ap length split.behind, length-drop 32 l.left.now, l.invariant.rest);
       here = block-next ring l.area-index l.run.from c.in_ok-run.run'.from l.left.now c.split_block.result.1.now below (l.invariant.here below)
           (rw split.block at next.from) split.behind;
     }

@@ -13,6 +13,6 @@ invariant-loop-area l = record {
   edges : IsLeft l.rows l.fn.flips.flips l.flips.flips (ring_edges (map (device_point l.rows) l.fn.ring))
       (closing_edges (device_point l.rows l.first) (device_point l.rows l.run.from) (map (device_point l.rows) l.left));
   valid : IsRun l.rows l.run;
-  rest : length l.left ≡ length l.fn.ring - 1 - 64 * l.area-index;
-  here : 64 * l.area-index < length l.fn.ring → l.run.from ∷ l.left ≡ drop (64 * l.area-index) l.fn.ring;
+  rest : length l.left ≡ length l.fn.ring - 1 - 32 * l.area-index;
+  here : 32 * l.area-index < length l.fn.ring → l.run.from ∷ l.left ≡ drop (32 * l.area-index) l.fn.ring;
 }

@@ -26,7 +26,7 @@ pub paint_block-requires-clause-has : goal.paint_block-requires-clause-has
 paint_block-requires-clause-has c =
     let l = c.loop-area in
     let boxes = c.boxes-area-items.ensures in
-    let below : 64 * l.area-index < length c.args.part.now = omega (arith, c.loop-area-test.true, boxes.count) in
+    let below : 32 * l.area-index < length c.args.part.now = omega (arith, c.loop-area-test.true, boxes.count) in
     rw c.split_block.ensures.block (block-has c.args.part.now c.boxes-area-items.result.now l.area-index c.area-item.result l.trail.from l.left.now boxes c.loop-area-test.true c.area-item.is
     (l.invariant.here below))
 
@@ -37,13 +37,13 @@ loop-area-preserved c =
     let part = c.args.part.now in
     let split = c.split_block.ensures in
     let next = c.in_ok-trail.ensures in
-    let below : 64 * l.area-index < length part = omega (arith, c.loop-area-test.true, c.boxes-area-items.ensures.count) in
-    let parted : l.left.now ≡ c.split_block.result.0.now ++ c.split_block.result.1.now = rw (split.block, split.behind) (sym (take-append-drop 64 l.left.now)) in
+    let below : 32 * l.area-index < length part = omega (arith, c.loop-area-test.true, c.boxes-area-items.ensures.count) in
+    let parted : l.left.now ≡ c.split_block.result.0.now ++ c.split_block.result.1.now = rw (split.block, split.behind) (sym (take-append-drop 32 l.left.now)) in
     record {
       way = way-block c.args.closed pen c.in-Some.first.now l.trail.from c.in_ok-trail.trail.from l.left.now c.split_block.result.0.now c.split_block.result.1.now
           (part_covers c.args.closed pen.width (map (device_point pen.view) part)) c.args.canvas.now l.canvas c.paint_block.new.canvas parted next.from l.invariant.way next.filled;
       trail = next.trail;
-      rest = omega (arith, ap length split.behind, length-drop 64 l.left.now, l.invariant.rest);
+      rest = omega (arith, ap length split.behind, length-drop 32 l.left.now, l.invariant.rest);
       here = block-next part l.area-index l.trail.from c.in_ok-trail.trail.from l.left.now c.split_block.result.1.now below (l.invariant.here below)
           (rw split.block at next.from) split.behind;
     }

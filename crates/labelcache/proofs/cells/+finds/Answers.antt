@@ -18,7 +18,7 @@ returns-clause-complete t c = λ p marked is near.
     (in-quarter c.args.cell p some is)
 
 pub child_of-requires-4-clause-columns : goal.child_of-requires-4-clause-columns
-child_of-requires-4-clause-columns t c = index-below c.args.cell.column c.args.cell.level (2 ^ 33) c.requires.cell.column
+child_of-requires-4-clause-columns t c = index-below c.args.cell.column c.args.cell.level (2 ^ 34) c.requires.cell.column
 
 pub child_of-requires-4-clause-rows : goal.child_of-requires-4-clause-rows
-child_of-requires-4-clause-rows t c = index-below c.args.cell.row c.args.cell.level (2 ^ 33) c.requires.cell.row
+child_of-requires-4-clause-rows t c = index-below c.args.cell.row c.args.cell.level (2 ^ 34) c.requires.cell.row

@@ -18,8 +18,8 @@ returns-clause-value c = rw (
   c.rise.ensures.value,
   word (2 ^ 48) c.run.result (omega arith) c.run.ensures.range,
   c.run.ensures.value,
-  word (2 ^ 47) c.centre.result (omega arith) c.centre.ensures.range,
-  c.centre.ensures.value,
+  word (2 ^ 47) c.row_centre.result (omega arith) c.row_centre.ensures.range,
+  c.row_centre.ensures.value,
   c.x.ensures.value,
   word (2 ^ 47) c.low_end-low.result.x (omega arith) c.x.ensures.limits.across,
   c.y.ensures.value,
@@ -37,7 +37,7 @@ pub product-right-requires-clause-b : goal.product-right-requires-clause-b
 product-right-requires-clause-b c = word-held (2 ^ 48) c.rise.result (omega arith) c.rise.ensures.range
 
 pub difference-requires-2-clause-a : goal.difference-requires-2-clause-a
-difference-requires-2-clause-a c = word-held (2 ^ 47) c.centre.result (omega arith) c.centre.ensures.range
+difference-requires-2-clause-a c = word-held (2 ^ 47) c.row_centre.result (omega arith) c.row_centre.ensures.range
 
 pub difference-requires-2-clause-b : goal.difference-requires-2-clause-b
 difference-requires-2-clause-b c = rw c.y.ensures.value (word-held (2 ^ 47) c.low_end-low.result.y (omega arith) c.y.ensures.limits.down)

@@ -36,7 +36,7 @@ returns-clause-all c = λ i.
 
 pub returns-then-is_beyond-clause-all : goal.returns-then-is_beyond-clause-all
 returns-then-is_beyond-clause-all c = λ i.
-    let beyond = rw (word (2 ^ 47) c.centre.result (omega arith) c.centre.ensures.range, c.centre.ensures.value) at (sym c.if-is_beyond.ensures) in
+    let beyond = rw (word (2 ^ 47) c.row_centre.result (omega arith) c.row_centre.ensures.range, c.row_centre.ensures.value) at (sym c.if-is_beyond.ensures) in
     rw (beyond-covers c.args.width c.args.edge (centre (pos c.args.row)) (centre (pos i)) beyond)
     (no-column (record { from = 0; to = 0 }) i (omega arith) ∙ sym (none (has_column c.args.span i)))
 

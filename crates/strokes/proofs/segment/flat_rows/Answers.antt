@@ -39,7 +39,7 @@ new-requires-clause-down c = top-below c.max-from.result c.y.result c.max-from.e
 
 pub new-requires-2-clause-down : goal.new-requires-2-clause-down
 new-requires-2-clause-down c =
-    bottom-below c.min-to.result c.y-2.result c.centre.result c.min-to.ensures.value (rw c.y-2.ensures.value c.y-2.ensures.limits.down) c.centre.ensures.range
+    bottom-below c.min-to.result c.y-2.result c.row_centre.result c.min-to.ensures.value (rw c.y-2.ensures.value c.y-2.ensures.limits.down) c.row_centre.ensures.range
 
 pub step-requires : goal.step-requires
 step-requires c = word-held (2 ^ 48) c.rise.result (omega arith) c.rise.ensures.range
@@ -71,9 +71,9 @@ returns-then-from-to-clause-none c = λ i j column row out.
     let highest : IsBelow (2 ^ 47) c.y-2.result = rw c.y-2.ensures.value c.y-2.ensures.limits.down in
     let from : c.max-from.result ≡ int_max (low_end e).y (pos 8) = rw (word (2 ^ 47) c.y.result (omega arith) lowest, low) at c.max-from.ensures.value in
     let to : c.min-to.result ≡ int_min (high_end e).y last =
-    rw (word (2 ^ 47) c.y-2.result (omega arith) highest, high, word (2 ^ 47) c.centre.result (omega arith) c.centre.ensures.range, c.centre.ensures.value) at c.min-to.ensures.value in
+    rw (word (2 ^ 47) c.y-2.result (omega arith) highest, high, word (2 ^ 47) c.row_centre.result (omega arith) c.row_centre.ensures.range, c.row_centre.ensures.value) at c.min-to.ensures.value in
     let least : IsBelow (2 ^ 47) c.max-from.result = rw from (greater-below (2 ^ 47) (low_end e).y (pos 8) (rw low at lowest) eight) in
-    let most : IsBelow (2 ^ 47) c.min-to.result = rw to (less-below (2 ^ 47) (high_end e).y last (rw high at highest) (rw c.centre.ensures.value at c.centre.ensures.range)) in
+    let most : IsBelow (2 ^ 47) c.min-to.result = rw to (less-below (2 ^ 47) (high_end e).y last (rw high at highest) (rw c.row_centre.ensures.value at c.row_centre.ensures.range)) in
     let none = rw (word (2 ^ 47) c.min-to.result (omega arith) most, word (2 ^ 47) c.max-from.result (omega arith) least, from, to) at c.if-from-to.true in
     flat-beside c.args.width e i j (λ after. past-both (low_end e).y (high_end e).y last (centre (pos i)) none after (omega (arith, ints)) (omega (arith, ints)))
 
@@ -87,9 +87,9 @@ returns-clause-none c = λ i j column row out.
     let highest : IsBelow (2 ^ 47) c.y-2.result = rw c.y-2.ensures.value c.y-2.ensures.limits.down in
     let from : c.max-from.result ≡ int_max (low_end e).y (pos 8) = rw (word (2 ^ 47) c.y.result (omega arith) lowest, low) at c.max-from.ensures.value in
     let to : c.min-to.result ≡ int_min (high_end e).y last =
-    rw (word (2 ^ 47) c.y-2.result (omega arith) highest, high, word (2 ^ 47) c.centre.result (omega arith) c.centre.ensures.range, c.centre.ensures.value) at c.min-to.ensures.value in
+    rw (word (2 ^ 47) c.y-2.result (omega arith) highest, high, word (2 ^ 47) c.row_centre.result (omega arith) c.row_centre.ensures.range, c.row_centre.ensures.value) at c.min-to.ensures.value in
     let least : IsBelow (2 ^ 47) c.max-from.result = rw from (greater-below (2 ^ 47) (low_end e).y (pos 8) (rw low at lowest) eight) in
-    let most : IsBelow (2 ^ 47) c.min-to.result = rw to (less-below (2 ^ 47) (high_end e).y last (rw high at highest) (rw c.centre.ensures.value at c.centre.ensures.range)) in
+    let most : IsBelow (2 ^ 47) c.min-to.result = rw to (less-below (2 ^ 47) (high_end e).y last (rw high at highest) (rw c.row_centre.ensures.value at c.row_centre.ensures.range)) in
     let one : c.right_of-one.result ≡ right_of e (record { x = centre (pos 0); y = c.max-from.result }) =
     rw (c.new.ensures, word (2 ^ 47) c.max-from.result (omega arith) least) at c.right_of-one.ensures.value in
     let other : c.right_of-other.result ≡ right_of e (record { x = centre (pos 0); y = c.min-to.result }) =

@@ -17,7 +17,7 @@ returns-clause-all c = λ i.
     rw (word (2 ^ 48) c.rise-2.result (omega arith) c.rise-2.ensures.range, c.rise-2.ensures.value) at c.reach.ensures.value in
     let right : c.right_of-right.result ≡ right_of e (pixel_centre (pos 0) (pos j)) = rw c.pixel_centre.ensures at c.right_of-right.ensures.value in
     let between : is_between e (centre (pos j)) ≡ true =
-    rw (word (2 ^ 47) c.centre.result (omega arith) c.centre.ensures.range, c.centre.ensures.value) at (sym c.if-not-is_between.ensures) in
+    rw (word (2 ^ 47) c.row_centre.result (omega arith) c.row_centre.ensures.range, c.row_centre.ensures.value) at (sym c.if-not-is_between.ensures) in
     let all = rw (
       word (2 ^ 52) c.step.result (omega arith) c.step.ensures.range,
       word (2 ^ 57) c.reach.result (omega arith) c.reach.ensures.range,

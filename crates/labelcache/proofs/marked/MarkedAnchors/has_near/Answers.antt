@@ -9,5 +9,5 @@ returns c =
     rw (← c.self.view_is) (
       λ h. found-place marked anchors anchor c.args.distance c.self.invariant c.requires (rw c.point_of.ensures.value at (c.has_near.ensures.sound h)),
       λ a. let f = place-found marked anchors anchor c.args.distance c.self.invariant c.requires a in
-          c.has_near.ensures.complete f.0 f.1 f.2 (rw c.point_of.ensures.value f.3),
+          c.has_near.ensures.complete f.0 f.2 (rw c.point_of.ensures.value f.3),
     )

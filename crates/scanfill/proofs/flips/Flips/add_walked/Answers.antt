@@ -1,4 +1,5 @@
 use Rattle.std.proofs.Common.{◌≡◌, ◌∙◌, ◌+◌, ◌-◌, ◌^◌, ◌&&◌, ℕ, cond, ap, sym, rules, arith}
+use Rattle.std.proofs.lemmas.Int.{ints}
 use Rattle.std.proofs.lemmas.Result.{on_ok_weaker}
 use Rattle.std.specs.List.{count_by}
 use Rattle.std.specs.Prelude.{int_le}
@@ -7,6 +8,8 @@ use Rattle.clip.specs.EdgeClass.{has_row}
 use Rattle.scanfill.specs.Column.{column_of}
 use Rattle.scanfill.specs.Flips.{FlipsValue, flips_by}
 use Rattle.scanfill.specs.Walk.{WalkValue}
+use Rattle.geom.specs.Edge.{run}
+use Rattle.scanfill.proofs.Columns.{upright-column}
 use Rattle.scanfill.proofs.FlipCounts.{rows-none, flips-more}
 use Rattle.scanfill.proofs.Words.{word}
 use Rattle.scanfill.proofs.flips.Flips.add_walked.Goals as goal
@@ -22,6 +25,17 @@ returns-then-rows-clause-counts c = on_ok_weaker c.add_flip.result
     (λ same. ap (λ k. int_le (column_of e k) (pos i)) (sym same)) (rows-none from j n (int_le (column_of e j) (pos i))) (rw column at (counts i j h))
     ∙ ap (λ k. n + cond {A = ℕ} (has_row (record { from = from; to = k }) j && int_le (column_of e j) (pos i)) 1 0) c.if-rows.true)
     c.add_flip.ensures.counts
+
+pub returns-then-run-eq0-clause-counts : goal.returns-then-run-eq0-clause-counts
+returns-then-run-eq0-clause-counts c = on_ok_weaker c.add_column.result
+    (λ counts. λ i j h.
+    let e = c.args.edge in
+    let from = c.args.rows.from in
+    let column = word (2 ^ 44) c.column-then-run-eq0.result (omega arith) c.column-then-run-eq0.ensures.range ∙ c.column-then-run-eq0.ensures.value in
+    let upright : run e ≡ pos 0 = omega (arith, ints, c.run.ensures.value, c.run.ensures.range, c.if-run-eq0.true) in
+    let same : column_of e from ≡ column_of e j = upright-column e from j upright in
+    rw (column, same) at (counts i j h))
+    c.add_column.ensures.counts
 
 pub loop-row-preserved : goal.loop-row-preserved
 loop-row-preserved c =
