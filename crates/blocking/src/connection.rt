@@ -27,10 +27,12 @@ pub fn serve_connection<R: Source, W: Sink, A: Asks>(
     reader: &mut R,
     writer: &mut W,
 ) -> Result<(), EdgeFault>
-    ensures served { OnOk result (IfSome (R.left reader.old) (λ stream. HasServed A.answers stream asks.old asks.new (W.held writer.old) (W.held writer.new))) }
-    ensures left { IfErr result (λ fault. IfSome (R.left reader.old) (λ stream. HasLeft fault A.answers stream asks.old asks.new (W.held writer.old) (W.held writer.new))) }
+    ensures served { OnOk result (IfSome (R.left reader.old) (λ stream. HasServed A.answers stream
+        (record { asker = asks.old; asks = asks.new; before = W.held writer.old; after = W.held writer.new }))) }
+    ensures left { IfErr result (λ fault. IfSome (R.left reader.old) (λ stream. HasLeft fault A.answers stream
+        (record { asker = asks.old; asks = asks.new; before = W.held writer.old; after = W.held writer.new }))) }
     ensures kept_up { IfErr result (λ fault. is_read fault ≡ true → (read : List ℕ) × Consumes (R.left reader.old) (R.left reader.new) read
-        × HasKeptUp A.answers W.held W.taken read asks.old asks.new writer.old writer.new) }
+        × HasKeptUp A.answers ⟦<W as Sink>⟧ read (record { asker = asks.old; asks = asks.new; before = writer.old; after = writer.new })) }
     ensures written { IfErr result (λ fault. W.taken writer.new ≡ W.taken writer.old + written_of fault) }
     ensures read_flag { MatchResult result (λ _. R.take_failed reader.new ≡ R.take_failed reader.old) (λ fault. R.take_failed reader.new ≡ (is_read fault || R.take_failed reader.old)) }
     ensures write_flag { MatchResult result (λ _. W.put_failed writer.new ≡ W.put_failed writer.old) (λ fault. W.put_failed writer.new ≡ (not (is_read fault) || W.put_failed writer.old)) }

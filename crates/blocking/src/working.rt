@@ -148,13 +148,12 @@ fn dispatch_all<R: Wait, C: Connection + Drop, T: Streams<C>>(
 /// taken.
 pub fn work<R, A, C, T, G>(
     rt: &R,
-    alloc: Global,
     members: Vec<A>,
     streams: &mut T,
     gate: &Arc<G, Global>,
 ) -> Result<(), StartError>
 where
-    R: Wait + Threads + Send + Copy + Drop + 'static,
+    R: AllocGlobal + Wait + Threads + Send + Copy + Drop + 'static,
     A: Asks + Send + Drop + 'static,
     C: Connection + Send + Drop + 'static,
     T: Streams<C>,
@@ -165,7 +164,7 @@ where
     if members.is_empty() {
         return Err(StartError);
     }
-    let Ok(mut workers) = Workers::new(alloc, members.len()) else {
+    let Ok(mut workers) = Workers::new(rt.alloc(), members.len()) else {
         return Err(StartError);
     };
     let started = start_all(rt, &mut workers, members, gate);

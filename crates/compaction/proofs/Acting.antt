@@ -12,11 +12,11 @@ use Rattle.mapdefs.specs.Name.{index_of, is_same_name}
 use Rattle.mapdefs.specs.declared.layer.LayerFields.{LayerFields}
 use Rattle.mapdefs.specs.declared.limits.TheConstants.{MAX_FEATURES}
 use Rattle.mapdefs.specs.declared.map.MapFields.{MapFields}
-use Rattle.layers.specs.Change.{and_then, append_at, appended, found, found_points, fitted, is_of_points, layer_at, named, of_points}
+use Rattle.layers.specs.Change.{append_at, appended, found, found_points, fitted, is_of_points, layer_at, named, of_points}
+use Rattle.mapdefs.specs.Outcome.{and_then}
 use Rattle.layers.specs.declared.fault.Refusal.{Refusal}
 use Rattle.layers.specs.declared.fault.Refusal.TheVariants.{UnknownLayer, NotPoints, Full}
 use Rattle.batches.specs.Batch.{applied, csv_fault, refusal_fault}
-use Rattle.batches.specs.Batch as batch
 use Rattle.batches.specs.declared.command.Command.{Command}
 use Rattle.batches.specs.declared.command.Command.TheVariants.{On, Off, Clear, Append}
 use Rattle.batches.specs.declared.fault.BatchKind.{BatchKind}
@@ -218,10 +218,10 @@ module _ (name bytes : List ℕ) (m : MapFields) where
   table layer = csv_fault (table_of layer.csv_x layer.csv_y MAX_FEATURES (records_of bytes))
 
   abbrev appended_by : ℕ × LayerFields → Result TableFields BatchKind → Result MapFields BatchKind
-  appended_by f t = batch.and_then t (λ table. refusal_fault (append_at f.0 table m))
+  appended_by f t = and_then t (λ table. refusal_fault (append_at f.0 table m))
 
   abbrev appended_as : Result (ℕ × LayerFields) Refusal → Result MapFields BatchKind
-  appended_as r = batch.and_then (refusal_fault r) (λ f. appended_by f (table f.1))
+  appended_as r = and_then (refusal_fault r) (λ f. appended_by f (table f.1))
 
   module _ (i : ℕ) (layer : LayerFields) (at : IsAt name m.layers i layer) where
     abbrev full_as : TableFields → Bool → Result MapFields BatchKind

@@ -5,7 +5,8 @@ use Rattle.std.specs.Option.{option_and_then}
 use Rattle.std.specs.Result.{result_ok}
 use Rattle.mapdefs.specs.declared.layer.LayerFields.{LayerFields}
 use Rattle.mapdefs.specs.declared.map.MapFields.{MapFields}
-use Rattle.batches.specs.Batch.{State, accepted, and_then, applied, at_command, batch, batched, unread}
+use Rattle.batches.specs.Batch.{State, accepted, applied, at_command, batch, batched, unread}
+use Rattle.mapdefs.specs.Outcome.{and_then}
 use Rattle.batches.specs.Batch as batch_of
 use Rattle.batches.specs.Command.{Reading, reading_of}
 use Rattle.batches.specs.declared.command.Command.{Command}

@@ -2,18 +2,17 @@
 use Rattle.std.proofs.Common.{◌≡◌, ◌∙◌, ◌⊎◌, inl, inr, ℕ, List, [], ◌∷◌, ◌++◌, Bool, true, false, ◌==◌, ◌≤◌, ◌<◌, ◌+◌, length, get_or, Option, None, Some, refl, sym, ap, subst, arith}
 use Rattle.std.proofs.lemmas.Bool.{eqb-true, eqb-false}
 use Rattle.std.specs.Prelude.{IfNone, IfSome, MatchBool}
-use Rattle.eventloop.specs.Working.{HasGivenWay, HasMadeRoom, HasTurned, InTime}
+use Rattle.eventloop.specs.Working.{AreAt, HasGivenWay, HasMadeRoom, HasRunAt, HasTurned, InTime, IsAt}
 use Rattle.turns.proofs.Order.{has-joins, joins-then}
 use Rattle.turns.specs.Pressure.{IsFirst, IsWanted, NoneMay}
 use Rattle.turns.specs.Times.{deadline, is_unanswered}
 use Rattle.turns.specs.declared.pressure.Pressure.{Pressure}
 use Rattle.turns.specs.declared.pressure.Pressure.TheVariants as pressure
 use Rattle.turns.specs.declared.times.Timeouts.{Timeouts}
-use Rattle.turns.specs.declared.turn.Next.{Next}
 use Rattle.httpedge.specs.Exchange.{Said}
-use Rattle.turns.proofs.Runs.{run-none, run-step}
+use Rattle.turns.proofs.Runs.{run-none, run-step, runs-then}
 use Rattle.turns.specs.Queue.{has}
-use Rattle.turns.specs.Runs.{Reason, Overdue, Unanswered, Yields, IsReason, Step, Opens, Wakes, Serves, Leaves, IsNew, IsTurnOf, Steps, Runs, HasRun, turns_of}
+use Rattle.turns.specs.Runs.{Reason, Overdue, Unanswered, Yields, IsReason, Step, Opens, Wakes, Serves, Leaves, IsNew, IsTurnOf, SlotTurn, Steps, Runs, HasRun, WorkerState, turns_of}
 use Rattle.turns.specs.Slots.{at_slot, OthersStay}
 use Rattle.turns.specs.Table.{Goes, connections, ready_slots, waiting_slots, has_room, timeouts_of, ClosedOrStayed, LeftOrStayed}
 use Rattle.turns.specs.declared.open_connection.OpenConnection.{OpenConnection}
@@ -25,8 +24,15 @@ turns-append : {T : Type 0} (some more : List (Step T)) → length (turns_of (so
 turns-append [] more = omega arith
 turns-append (Opens slot connection ∷ some) more = turns-append some more
 turns-append (Wakes slot ∷ some) more = turns-append some more
-turns-append (Serves slot result now ∷ some) more = let e = turns-append some more in omega (arith, e)
+turns-append (Serves turn ∷ some) more = let e = turns-append some more in omega (arith, e)
 turns-append (Leaves slot why ∷ some) more = turns-append some more
+
+at-then : {T : Type 0} (now : ℕ) (some more : List (Step T)) → AreAt now some → AreAt now more → AreAt now (some ++ more)
+at-then now [] more first last = last
+at-then now (Opens slot connection ∷ some) more first last = at-then now some more first last
+at-then now (Wakes slot ∷ some) more first last = at-then now some more first last
+at-then now (Serves turn ∷ some) more (is, first) last = (is, at-then now some more first last)
+at-then now (Leaves slot why ∷ some) more (is, first) last = (is, at-then now some more first last)
 
 -- one more slot was woken
 pub woken-next : {T : Type 0} (slots : List ℕ) (index : ℕ) (old between new : ConnectionTable T) → ((k : ℕ) → k < index → get_or slots k 0 < length (connections old) → has (get_or slots k 0) (ready_slots between) ≡ true)
@@ -98,87 +104,116 @@ made-room now old new None goes none first wanted stays = elim none [
 ]
 made-room now old new (Some one) goes none first wanted left = inr (inr (goes, inr (one.slot, first, wanted, left.gone, left.others)))
 
+-- a table, and an answerer
+abbrev with-table : {A T : Type 0} → A → ConnectionTable T → WorkerState A T
+with-table asks table = record { table = table; asks = asks }
+
 module _ {A T : Type 0} (answers : A → List ℕ → Said → A → Type 0) (known : Transport T) where
   -- no step changes the times
-  step-times : (step : Step T) (old new : ConnectionTable T) (a b : A) → Steps answers known old a step new b → timeouts_of new ≡ timeouts_of old
-  step-times (Opens slot connection) old new a b (same, fresh, there, others, ready, goes) = goes.keeps.timeouts
-  step-times (Wakes slot) old new a b (same, stay, goes) = goes.keeps.timeouts
-  step-times (Serves slot next now) old new a b is = is.keeps.timeouts
-  step-times (Leaves slot why) old new a b (same, reason, gone, others, goes) = goes.keeps.timeouts
+  step-times : (step : Step T) (old new : WorkerState A T) → Steps answers known old step new → timeouts_of new.table ≡ timeouts_of old.table
+  step-times (Opens slot connection) old new (same, fresh, there, others, ready, goes) = goes.keeps.timeouts
+  step-times (Wakes slot) old new (same, stay, goes) = goes.keeps.timeouts
+  step-times (Serves turn) old new is = is.keeps.timeouts
+  step-times (Leaves slot why) old new (same, reason, gone, others, goes) = goes.keeps.timeouts
 
-  runs-times : (steps : List (Step T)) (old new : ConnectionTable T) (a b : A) → Runs answers known old a steps new b → timeouts_of new ≡ timeouts_of old
-  runs-times [] old new a b (same, asks) = ap timeouts_of same
-  runs-times (step ∷ steps) old new a b (table, other, first, rest) = runs-times steps table new other b rest ∙ step-times step old table a other first
+  runs-times : (steps : List (Step T)) (old new : WorkerState A T) → Runs answers known old steps new → timeouts_of new.table ≡ timeouts_of old.table
+  runs-times [] old new (same, still_asks) = ap timeouts_of same
+  runs-times (step ∷ steps) old new (between, first, rest) = runs-times steps between new rest ∙ step-times step old between first
 
-  pub run-times : (old new : ConnectionTable T) (a b : A) → HasRun answers known old a new b → timeouts_of new ≡ timeouts_of old
-  run-times old new a b (steps, runs) = runs-times steps old new a b runs
+  pub run-times : (old new : WorkerState A T) → HasRun answers known old new → timeouts_of new.table ≡ timeouts_of old.table
+  run-times old new (steps, runs) = runs-times steps old new runs
 
-  pub wakes-run : (slot : ℕ) (old new : ConnectionTable T) (asks : A) → connections new ≡ connections old → Goes old new → HasRun answers known old asks new asks
-  wakes-run slot old new asks same goes = run-step answers known (Wakes slot) old new asks asks (refl, same, goes)
+  -- an answerer stayed, and the table went by some steps
+  abbrev pub TableRan : A → ConnectionTable T → ConnectionTable T → Type 0
+  TableRan asks old new = HasRun answers known (with-table asks old) (with-table asks new)
+
+  pub wakes-run : (slot : ℕ) (old new : ConnectionTable T) (asks : A) → connections new ≡ connections old → Goes old new → TableRan asks old new
+  wakes-run slot old new asks same goes = run-step answers known (Wakes slot) (with-table asks old) (with-table asks new) (refl, same, goes)
 
   pub leaves-run : (slot : ℕ) (why : Reason) (old new : ConnectionTable T) (asks : A) → IsReason why old slot → at_slot (connections new) slot ≡ None → OthersStay slot (connections old) (connections new)
-      → Goes old new → HasRun answers known old asks new asks
-  leaves-run slot why old new asks reason gone others goes = run-step answers known (Leaves slot why) old new asks asks (refl, reason, gone, others, goes)
+      → Goes old new → TableRan asks old new
+  leaves-run slot why old new asks reason gone others goes = run-step answers known (Leaves slot why) (with-table asks old) (with-table asks new) (refl, reason, gone, others, goes)
+
+  -- the same at a moment
+  abbrev pub TableRanAt : ℕ → A → ConnectionTable T → ConnectionTable T → Type 0
+  TableRanAt now asks old new = HasRunAt answers known now (with-table asks old) (with-table asks new)
+
+  wakes-at : (now slot : ℕ) (old new : ConnectionTable T) (asks : A) → connections new ≡ connections old → Goes old new → TableRanAt now asks old new
+  wakes-at now slot old new asks same goes = (Wakes slot ∷ [], (with-table asks new, (refl, same, goes), (refl, refl)), tt)
+
+  leaves-at : (now slot : ℕ) (why : Reason) (old new : ConnectionTable T) (asks : A) → IsAt now why → IsReason why old slot → at_slot (connections new) slot ≡ None
+      → OthersStay slot (connections old) (connections new) → Goes old new → TableRanAt now asks old new
+  leaves-at now slot why old new asks at reason gone others goes =
+      (Leaves slot why ∷ [], (with-table asks new, (refl, reason, gone, others, goes), (refl, refl)), (at, tt))
 
   -- a connection whose time is over is taken from its slot, or none
   pub overdue-run : (slot now : ℕ) (old new : ConnectionTable T) (asks : A) (result : Option (OpenConnection T)) → IfSome result (λ connection. deadline (timeouts_of old) connection.phase ≤ now)
-      → LeftOrStayed slot result old new → Goes old new → HasRun answers known old asks new asks
-  overdue-run slot now old new asks None overdue stays goes = wakes-run slot old new asks stays goes
+      → LeftOrStayed slot result old new → Goes old new → TableRanAt now asks old new
+  overdue-run slot now old new asks None overdue stays goes = wakes-at now slot old new asks stays goes
   overdue-run slot now old new asks (Some connection) overdue left goes =
-      leaves-run slot (Overdue now) old new asks (subst (λ (o : Option (OpenConnection T)). IfSome o (λ found. deadline (timeouts_of old) found.phase ≤ now)) (sym left.was) overdue) left.gone left.others goes
+      leaves-at now slot (Overdue now) old new asks refl (subst (λ (o : Option (OpenConnection T)). IfSome o (λ found. deadline (timeouts_of old) found.phase ≤ now)) (sym left.was) overdue) left.gone left.others goes
 
   -- a connection that isn't being answered is taken from its slot, or none
   pub unanswered-run : (slot : ℕ) (old new : ConnectionTable T) (asks : A) (result : Option (OpenConnection T)) → IfSome result (λ connection. is_unanswered connection.phase ≡ true)
-      → LeftOrStayed slot result old new → Goes old new → HasRun answers known old asks new asks
+      → LeftOrStayed slot result old new → Goes old new → TableRan asks old new
   unanswered-run slot old new asks None unanswered stays goes = wakes-run slot old new asks stays goes
   unanswered-run slot old new asks (Some connection) unanswered left goes =
       leaves-run slot Unanswered old new asks (subst (λ (o : Option (OpenConnection T)). IfSome o (λ found. is_unanswered found.phase ≡ true)) (sym left.was) unanswered) left.gone left.others goes
 
-  -- a connection that gave way, or none
-  pub gave-way-run : (why : Pressure) (old new : ConnectionTable T) (asks : A) (result : Option (Closed T)) → IfSome result (λ closed. IsFirst why old closed.slot) → IfSome result (λ _. IsWanted why old)
-      → ClosedOrStayed result old new → Goes old new → HasRun answers known old asks new asks
-  gave-way-run why old new asks None first wanted stays goes = wakes-run 0 old new asks stays goes
-  gave-way-run why old new asks (Some one) first wanted left goes = leaves-run one.slot (Yields why) old new asks (first, wanted) left.gone left.others goes
+  -- a connection that gave way at a moment, or none
+  pub gave-way-run : (now : ℕ) (why : Pressure) (old new : ConnectionTable T) (asks : A) (result : Option (Closed T)) → IsAt now (Yields why) → IfSome result (λ closed. IsFirst why old closed.slot)
+      → IfSome result (λ _. IsWanted why old) → ClosedOrStayed result old new → Goes old new → TableRanAt now asks old new
+  gave-way-run now why old new asks None at first wanted stays goes = wakes-at now 0 old new asks stays goes
+  gave-way-run now why old new asks (Some one) at first wanted left goes = leaves-at now one.slot (Yields why) old new asks at (first, wanted) left.gone left.others goes
 
-  pub opens-run : (slot : ℕ) (connection : OpenConnection T) (old new : ConnectionTable T) (asks : A) → IsNew connection → at_slot (connections new) slot ≡ Some connection → OthersStay slot (connections old) (connections new)
-      → has slot (ready_slots new) ≡ true → Goes old new → HasRun answers known old asks new asks
-  opens-run slot connection old new asks fresh here others ready goes = run-step answers known (Opens slot connection) old new asks asks (refl, fresh, here, others, ready, goes)
+  pub opens-run : (now slot : ℕ) (connection : OpenConnection T) (old new : ConnectionTable T) (asks : A) → IsNew connection → at_slot (connections new) slot ≡ Some connection
+      → OthersStay slot (connections old) (connections new) → has slot (ready_slots new) ≡ true → Goes old new → TableRanAt now asks old new
+  opens-run now slot connection old new asks fresh here others ready goes =
+      (Opens slot connection ∷ [], (with-table asks new, (refl, fresh, here, others, ready, goes), (refl, refl)), tt)
 
-  pub given-way-run : (why : Pressure) (old new : ConnectionTable T) (asks : A) → HasGivenWay why old new → HasRun answers known old asks new asks
+  pub given-way-run : (why : Pressure) (old new : ConnectionTable T) (asks : A) → HasGivenWay why old new → TableRan asks old new
   given-way-run why old new asks (goes, inl (same, none)) = wakes-run 0 old new asks same goes
   given-way-run why old new asks (goes, inr (slot, first, wanted, gone, others)) = leaves-run slot (Yields why) old new asks (first, wanted) gone others goes
 
-  pub obeyed-run : (why : Pressure) (old new : ConnectionTable T) (asks : A) (is_pressed : Bool) → MatchBool is_pressed (HasGivenWay why old new) (new ≡ old) → HasRun answers known old asks new asks
+  pub obeyed-run : (why : Pressure) (old new : ConnectionTable T) (asks : A) (is_pressed : Bool) → MatchBool is_pressed (HasGivenWay why old new) (new ≡ old) → TableRan asks old new
   obeyed-run why old new asks true left = given-way-run why old new asks left
-  obeyed-run why old new asks false same = subst (λ (t : ConnectionTable T). HasRun answers known old asks t asks) (sym same) (run-none answers known old asks)
+  obeyed-run why old new asks false same = subst (λ (t : ConnectionTable T). TableRan asks old t) (sym same) (run-none answers known (with-table asks old))
 
-  runs-then : (steps more : List (Step T)) (old between new : ConnectionTable T) (a b c : A) → Runs answers known old a steps between b
-      → Runs answers known between b more new c → Runs answers known old a (steps ++ more) new c
-  runs-then [] more old between new a b c (same, still_asks) last =
-      subst (λ (t : ConnectionTable T). Runs answers known t a more new c) same (subst (λ (k : A). Runs answers known between k more new c) still_asks last)
-  runs-then (step ∷ steps) more old between new a b c (table, asks, first, rest) last = (table, asks, first, runs-then steps more table between new asks b c rest last)
+  -- steps at a moment are steps
+  pub ran : (now : ℕ) (old new : WorkerState A T) → HasRunAt answers known now old new → HasRun answers known old new
+  ran now old new (steps, runs, at) = (steps, runs)
 
-  pub turned-none : (table : ConnectionTable T) (asks : A) → HasTurned answers known 0 table asks table asks
-  turned-none table asks = ([], (refl, refl), omega arith)
+  -- some steps at a moment, and then others, at the same
+  pub ran-then : (now then : ℕ) (old between new : WorkerState A T) → HasRunAt answers known now old between → HasRunAt answers known then between new → then ≡ now
+      → HasRunAt answers known now old new
+  ran-then now then old between new (steps, first, at) (more, last, at_last) same =
+      (steps ++ more, runs-then answers known steps more old between new first last, at-then now steps more at (subst (λ (n : ℕ). AreAt n more) same at_last))
 
-  -- so many turns, and then so many
-  pub turned-then : (m n : ℕ) (old between new : ConnectionTable T) (a b c : A) → HasTurned answers known m old a between b → HasTurned answers known n between b new c
-      → HasTurned answers known (m + n) old a new c
-  turned-then m n old between new a b c (steps, first, enough) (more, last, further) =
-      (steps ++ more, runs-then steps more old between new a b c first last, let e = turns-append steps more in omega (arith, e, enough, further))
+  pub turned-none : (now : ℕ) (state : WorkerState A T) → HasTurned answers known (record { least = 0; now = now }) state state
+  turned-none now state = ([], (refl, refl), tt, omega arith)
+
+  -- so many turns, and then so many, at the same moment
+  pub turned-then : (m n now then : ℕ) (old between new : WorkerState A T) → HasTurned answers known (record { least = m; now = now }) old between
+      → HasTurned answers known (record { least = n; now = then }) between new → then ≡ now → HasTurned answers known (record { least = m + n; now = now }) old new
+  turned-then m n now then old between new (steps, first, at, enough) (more, last, at_last, further) same = (
+    steps ++ more,
+    runs-then answers known steps more old between new first last,
+    at-then now steps more at (subst (λ (n : ℕ). AreAt n more) same at_last),
+    let e = turns-append steps more in omega (arith, e, enough, further),
+  )
 
   -- a turn, and what followed
-  pub turn-turned : (slot now : ℕ) (result : Option Next) (old between new : ConnectionTable T) (a b c : A) → IsTurnOf answers known old a slot result now between b
-      → HasRun answers known between b new c → HasTurned answers known 1 old a new c
-  turn-turned slot now result old between new a b c turn (more, last) = (Serves slot result now ∷ more, (between, b, turn, last), omega arith)
+  pub turn-turned : (turn : SlotTurn) (old between new : WorkerState A T) → IsTurnOf answers known old turn between → HasRunAt answers known turn.now between new
+      → HasTurned answers known (record { least = 1; now = turn.now }) old new
+  turn-turned turn old between new had (more, last, at) = (Serves turn ∷ more, (between, had, last), (refl, at), omega arith)
 
   -- of so many turns there are fewer
-  pub turned-fewer : (m n : ℕ) (old new : ConnectionTable T) (a b : A) → n ≤ m → HasTurned answers known m old a new b → HasTurned answers known n old a new b
-  turned-fewer m n old new a b less (steps, runs, enough) = (steps, runs, omega (arith, less, enough))
+  pub turned-fewer : (m n now : ℕ) (old new : WorkerState A T) → n ≤ m → HasTurned answers known (record { least = m; now = now }) old new
+      → HasTurned answers known (record { least = n; now = now }) old new
+  turned-fewer m n now old new less (steps, runs, at, enough) = (steps, runs, at, omega (arith, less, enough))
 
-  pub turned-run : (count : ℕ) (old new : ConnectionTable T) (a b : A) → HasTurned answers known count old a new b → HasRun answers known old a new b
-  turned-run count old new a b (steps, runs, enough) = (steps, runs)
+  pub turned-ran : (count now : ℕ) (old new : WorkerState A T) → HasTurned answers known (record { least = count; now = now }) old new → HasRunAt answers known now old new
+  turned-ran count now old new (steps, runs, at, enough) = (steps, runs, at)
 
-  pub run-same : (old between new : ConnectionTable T) (a b c : A) → HasRun answers known old a between b → new ≡ between → c ≡ b → HasRun answers known old a new c
-  run-same old between new a b c runs table asks =
-      subst (λ (t : ConnectionTable T). HasRun answers known old a t c) (sym table) (subst (λ (k : A). HasRun answers known old a between k) (sym asks) runs)
+  pub turned-run : (count now : ℕ) (old new : WorkerState A T) → HasTurned answers known (record { least = count; now = now }) old new → HasRun answers known old new
+  turned-run count now old new (steps, runs, at, enough) = (steps, runs)

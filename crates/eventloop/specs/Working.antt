@@ -1,10 +1,10 @@
 -- What a worker does with its connections (docs/WMS.md, "HTTP").
 use Rattle.std.specs.List.{All}
-use Rattle.std.specs.Prelude.{◌≡◌, ◌⊎◌, ◌≤◌, ◌<◌, ℕ, List, [], length, None, Some, true, IfSome}
+use Rattle.std.specs.Prelude.{◌≡◌, ◌⊎◌, ◌≤◌, ◌<◌, ℕ, List, [], ◌∷◌, length, None, Some, true, IfSome}
 use Rattle.httpedge.specs.Exchange.{Said}
 use Rattle.turns.specs.Pressure.{IsFirst, IsWanted, NoneMay}
 use Rattle.turns.specs.Queue.{has}
-use Rattle.turns.specs.Runs.{Step, Runs, HasRun, turns_of}
+use Rattle.turns.specs.Runs.{Reason, Overdue, Unanswered, Yields, Step, Opens, Wakes, Serves, Leaves, Runs, HasRun, WorkerState, turns_of}
 use Rattle.turns.specs.Slots.{at_slot, OthersStay}
 use Rattle.turns.specs.Table.{Goes, connections, ready_slots, waiting_slots, timeouts_of, has_room}
 use Rattle.turns.specs.Times.{deadline}
@@ -18,6 +18,10 @@ use Rattle.std.specs.declared.thread.PromisedHandle.{PromisedHandle}
 use Rattle.eventloop.specs.declared.worker.Worker.{Worker}
 use Rattle.eventloop.specs.declared.worker_threads.HasServed.{HasServed}
 use Rattle.turns.specs.declared.transport.Transport.{Ghosts as Transport}
+
+-- what a worker has: the table of its connections, and the answerer of their queries
+abbrev pub state : {A T P : Type 0} → Worker A T P → WorkerState A T
+state worker = record { table = worker.table; asks = worker.asks }
 
 -- a connection was opened at this moment at a slot, or none was
 abbrev pub HasOpened : {T : Type 0} → ℕ → ℕ → ConnectionTable T → ConnectionTable T → Type 0
@@ -49,27 +53,50 @@ HaveTurns slots old new = All (λ slot. slot < length (connections old) → has 
 -- the law of events: each slot of a table that a poller reports is served after that, or has its turn still, whatever steps are made
 abbrev pub EventsServe : {A T : Type 0} → (A → List ℕ → Said → A → Type 0) → Transport T → Type 0
 EventsServe {A} {T} answers known =
-    (slots : List ℕ) (before table last : ConnectionTable T) (asker asks : A) (steps : List (Step T)) → HaveTurns slots before table
-    → Runs answers known table asker steps last asks
-    → All (λ slot. slot < length (connections before) → (has slot (turns_of steps) ≡ true) ⊎ (has slot (ready_slots last) ≡ true)) slots
+    (slots : List ℕ) (before : ConnectionTable T) (first last : WorkerState A T) (steps : List (Step T)) → HaveTurns slots before first.table
+    → Runs answers known first steps last
+    → All (λ slot. slot < length (connections before) → (has slot (turns_of steps) ≡ true) ⊎ (has slot (ready_slots last.table) ≡ true)) slots
 
--- a table made some steps, at least so many of which were turns
-abbrev pub HasTurned : {A T : Type 0} → (A → List ℕ → Said → A → Type 0) → Transport T → ℕ → ConnectionTable T → A → ConnectionTable T → A → Type 0
-HasTurned {A} {T} answers known count old asker new asks =
-    (steps : List (Step T)) × Runs answers known old asker steps new asks × (count ≤ length (turns_of steps))
+-- a connection leaves for this reason at a moment, if the reason has one
+abbrev pub IsAt : ℕ → Reason → Type 0
+IsAt now (Overdue moment) = moment ≡ now
+IsAt now Unanswered = Unit {0}
+IsAt now (Yields (pressure.Slot moment)) = moment ≡ now
+IsAt now (Yields (pressure.Room moment rate)) = moment ≡ now
+
+-- these steps are made at a moment
+abbrev pub AreAt : {T : Type 0} → ℕ → List (Step T) → Type 0
+AreAt now [] = Unit {0}
+AreAt now (Opens slot connection ∷ steps) = AreAt now steps
+AreAt now (Wakes slot ∷ steps) = AreAt now steps
+AreAt now (Serves turn ∷ steps) = (turn.now ≡ now) × AreAt now steps
+AreAt now (Leaves slot why ∷ steps) = IsAt now why × AreAt now steps
+
+-- a worker made some steps at a moment
+abbrev pub HasRunAt : {A T : Type 0} → (A → List ℕ → Said → A → Type 0) → Transport T → ℕ → WorkerState A T → WorkerState A T → Type 0
+HasRunAt {A} {T} answers known now old new = (steps : List (Step T)) × Runs answers known old steps new × AreAt now steps
+
+-- so many turns at least, at a moment
+pub record TurnCount : Type 0 where
+  pub least : ℕ
+  pub now : ℕ
+
+-- a worker made some steps at a moment, at least so many of which were turns
+abbrev pub HasTurned : {A T : Type 0} → (A → List ℕ → Said → A → Type 0) → Transport T → TurnCount → WorkerState A T → WorkerState A T → Type 0
+HasTurned {A} {T} answers known turns old new =
+    (steps : List (Step T)) × Runs answers known old steps new × AreAt turns.now steps × (turns.least ≤ length (turns_of steps))
 
 -- so many turns were made, or all that there were
-abbrev pub HasServedSome : {A T : Type 0} → (A → List ℕ → Said → A → Type 0) → Transport T → ℕ → ConnectionTable T → A → ConnectionTable T → A → Type 0
-HasServedSome {A} {T} answers known count old asker new asks =
-    HasTurned answers known count old asker new asks
-    ⊎ ((between : ConnectionTable T) × (other : A) × HasRun answers known old asker between other × (ready_slots between ≡ []) × HasRun answers known between other new asks)
+abbrev pub HasServedSome : {A T : Type 0} → (A → List ℕ → Said → A → Type 0) → Transport T → TurnCount → WorkerState A T → WorkerState A T → Type 0
+HasServedSome {A} {T} answers known turns old new =
+    HasTurned answers known turns old new
+    ⊎ ((between : WorkerState A T) × HasRunAt answers known turns.now old between × (ready_slots between.table ≡ []) × HasRun answers known between new)
 
--- a table had no connection, and then made some steps
+-- a worker had no connection, and then made some steps
 pub record HasBeen {A T : Type 0} (answers : A → List ℕ → Said → A → Type 0) (known : Transport T) (table : ConnectionTable T) (asks : A) : Type 0 where
-  pub start : ConnectionTable T
-  pub asker : A
-  pub free : (slot : ℕ) → at_slot (connections start) slot ≡ None
-  pub ran : HasRun answers known start asker table asks
+  pub start : WorkerState A T
+  pub free : (slot : ℕ) → at_slot (connections start.table) slot ≡ None
+  pub ran : HasRun answers known start (record { table = table; asks = asks })
 
 -- the workers of these threads began with these times
 abbrev pub BeganWith : {A T P : Type 0} → Timeouts → List (PromisedHandle (Worker A T P) (HasServed A T P)) → Type 0

@@ -6,8 +6,9 @@
 //!
 //! Proved: a loop goes by the steps of `turns` alone (`run`), from a table without connections to the worker that its thread gives
 //! back (`HasServed`, `WorkerThreads::end`). Between two looks at the poller at most one query is asked (`serve_some`), what the
-//! poller reports has a turn (`wait`, `laws::events_serve`), and a connection that has to give way does (`Orders`, `make_room`). No proof covers that the
-//! system reports each event, nor that threads run. Each call ends but `run` and those that wait.
+//! poller reports has a turn (`wait`, `laws::events_serve`), and a connection that has to give way does (`Orders`, `make_room`). Where it opens, closes and
+//! serves connections, turns and closings are made at the moment of its clock (`HasRunAt`); no clause says the moment of a whole round, nor of what follows
+//! once no slot is ready. No proof covers that the system reports each event, nor that threads run. Each call ends but `run` and those that wait.
 //!
 //! Terms: a worker *finishes* where no further connection comes to it: those that it has are served to their end. It *stops*
 //! where those that aren't being answered are closed.

@@ -1,5 +1,5 @@
 ghost use Rattle.std.specs.Prelude.{◌≡◌, ◌<◌, ℕ, List, length, [], None, false, IfOk, IfSome, MatchBool, MatchOption};
-ghost use Rattle.eventloop.specs.Working.{HasGivenWay, HasMadeRoom, HasOpened, HasLooked, HaveTurns, HasTurned, HasServedSome};
+ghost use Rattle.eventloop.specs.Working.{HasGivenWay, HasMadeRoom, HasOpened, HasLooked, HaveTurns, HasRunAt, HasTurned, HasServedSome, state};
 ghost use Rattle.httpedge.specs.Session.{HasAsked, QueryOutcome};
 ghost use Rattle.turns.specs.Runs.{HasRun};
 ghost use Rattle.turns.specs.Slots.{at_slot, OthersStay};
@@ -94,7 +94,7 @@ impl<A: Asks, T: Transport + EndsEarly + Drop, P: Poller<T>> Worker<A, T, P> {
     fn open(&mut self, slot: usize, mut transport: T)
         requires known { slot < length (connections self.old.table) }
         requires free { at_slot (connections self.old.table) slot ≡ None }
-        ensures run { HasRun A.answers ⟦<T as Transport>⟧ self.old.table self.old.asks self.new.table self.new.asks }
+        ensures run { HasRunAt A.answers ⟦<T as Transport>⟧ self.old.now (state self.old) (state self.new) }
         ensures opened { HasOpened self.old.now slot self.old.table self.new.table }
         ensures now { self.new.now ≡ self.old.now }
     {
@@ -111,7 +111,7 @@ impl<A: Asks, T: Transport + EndsEarly + Drop, P: Poller<T>> Worker<A, T, P> {
     // Takes over the next connection that waits. Where no slot is free, one that isn't being answered gives way, or none is taken
     // over. Returns whether one was.
     fn take_over<R: Wait, W: Wakes>(&mut self, rt: &R, handover: &Handover<T, W>) -> bool
-        ensures run { HasRun A.answers ⟦<T as Transport>⟧ self.old.table self.old.asks self.new.table self.new.asks }
+        ensures run { HasRunAt A.answers ⟦<T as Transport>⟧ self.old.now (state self.old) (state self.new) }
         ensures now { self.new.now ≡ self.old.now }
     {
         if !handover.has_waiting(rt) {
@@ -132,7 +132,7 @@ impl<A: Asks, T: Transport + EndsEarly + Drop, P: Poller<T>> Worker<A, T, P> {
 
     // Takes over those that wait, as many as there are slots for.
     fn take_over_all<R: Wait, W: Wakes>(&mut self, rt: &R, handover: &Handover<T, W>)
-        ensures run { HasRun A.answers ⟦<T as Transport>⟧ self.old.table self.old.asks self.new.table self.new.asks }
+        ensures run { HasRunAt A.answers ⟦<T as Transport>⟧ self.old.now (state self.old) (state self.new) }
         ensures now { self.new.now ≡ self.old.now }
     {
         for _ in 0..self.table.len() {
@@ -144,7 +144,7 @@ impl<A: Asks, T: Transport + EndsEarly + Drop, P: Poller<T>> Worker<A, T, P> {
 
     // A connection that had a turn leaves, if it is over.
     fn leave(&mut self, served: Served)
-        ensures run { HasRun A.answers ⟦<T as Transport>⟧ self.old.table self.old.asks self.new.table self.new.asks }
+        ensures run { HasRunAt A.answers ⟦<T as Transport>⟧ self.old.now (state self.old) (state self.new) }
         ensures asks { self.new.asks ≡ self.old.asks }
         ensures now { self.new.now ≡ self.old.now }
     {
@@ -156,8 +156,8 @@ impl<A: Asks, T: Transport + EndsEarly + Drop, P: Poller<T>> Worker<A, T, P> {
     // Makes a turn, if a slot has one. A connection that is over leaves. Returns whether a query may have been asked in it.
     fn serve_one(&mut self) -> Option<bool>
         ensures turn { MatchOption result
-            ((ready_slots self.old.table ≡ []) × HasRun A.answers ⟦<T as Transport>⟧ self.old.table self.old.asks self.new.table self.new.asks)
-            (λ _. HasTurned A.answers ⟦<T as Transport>⟧ 1 self.old.table self.old.asks self.new.table self.new.asks) }
+            ((ready_slots self.old.table ≡ []) × HasRun A.answers ⟦<T as Transport>⟧ (state self.old) (state self.new))
+            (λ _. HasTurned A.answers ⟦<T as Transport>⟧ (record { least = 1; now = self.old.now }) (state self.old) (state self.new)) }
         ensures once { (queries : List QueryOutcome) × HasAsked A.answers self.old.asks queries self.new.asks }
         ensures unasked { MatchOption result (self.new.asks ≡ self.old.asks) (λ asked. asked ≡ false → self.new.asks ≡ self.old.asks) }
         ensures now { self.new.now ≡ self.old.now }
@@ -171,10 +171,10 @@ impl<A: Asks, T: Transport + EndsEarly + Drop, P: Poller<T>> Worker<A, T, P> {
     // been asked.
     fn serve_some(&mut self) -> bool
         ensures turns { MatchBool result
-            (HasTurned A.answers ⟦<T as Transport>⟧ 1 self.old.table self.old.asks self.new.table self.new.asks)
-            (HasServedSome A.answers ⟦<T as Transport>⟧ 64 self.old.table self.old.asks self.new.table self.new.asks) }
+            (HasTurned A.answers ⟦<T as Transport>⟧ (record { least = 1; now = self.old.now }) (state self.old) (state self.new))
+            (HasServedSome A.answers ⟦<T as Transport>⟧ (record { least = 64; now = self.old.now }) (state self.old) (state self.new)) }
         ensures once { (queries : List QueryOutcome) × HasAsked A.answers self.old.asks queries self.new.asks }
-        ensures run { HasRun A.answers ⟦<T as Transport>⟧ self.old.table self.old.asks self.new.table self.new.asks }
+        ensures run { HasRun A.answers ⟦<T as Transport>⟧ (state self.old) (state self.new) }
         ensures now { self.new.now ≡ self.old.now }
     {
         for _ in 0..MAX_TURNS {
@@ -190,7 +190,7 @@ impl<A: Asks, T: Transport + EndsEarly + Drop, P: Poller<T>> Worker<A, T, P> {
     // Closes the connection at a slot where its time is over. The cause is noted, unless its client had all of its
     // answers.
     fn close_overdue(&mut self, slot: usize)
-        ensures run { HasRun A.answers ⟦<T as Transport>⟧ self.old.table self.old.asks self.new.table self.new.asks }
+        ensures run { HasRunAt A.answers ⟦<T as Transport>⟧ self.old.now (state self.old) (state self.new) }
         ensures in_time { IfSome (at_slot (connections self.new.table) slot) (λ connection. self.old.now < deadline (timeouts_of self.old.table) connection.phase) }
         ensures others { OthersStay slot (connections self.old.table) (connections self.new.table) }
         ensures goes { Goes self.old.table self.new.table }
@@ -206,7 +206,7 @@ impl<A: Asks, T: Transport + EndsEarly + Drop, P: Poller<T>> Worker<A, T, P> {
 
     // Closes those whose time is over.
     fn look(&mut self)
-        ensures run { HasRun A.answers ⟦<T as Transport>⟧ self.old.table self.old.asks self.new.table self.new.asks }
+        ensures run { HasRunAt A.answers ⟦<T as Transport>⟧ self.old.now (state self.old) (state self.new) }
         ensures looked { HasLooked self.old.now self.old.table self.new.table }
         ensures now { self.new.now ≡ self.old.now }
     {
@@ -217,7 +217,7 @@ impl<A: Asks, T: Transport + EndsEarly + Drop, P: Poller<T>> Worker<A, T, P> {
 
     // Where an answer waits for room, the slowest reader gives way, if one may. The next wait is short then, as others may have to.
     fn make_room(&mut self)
-        ensures run { HasRun A.answers ⟦<T as Transport>⟧ self.old.table self.old.asks self.new.table self.new.asks }
+        ensures run { HasRunAt A.answers ⟦<T as Transport>⟧ self.old.now (state self.old) (state self.new) }
         ensures room { HasMadeRoom self.old.now self.old.table self.new.table }
         ensures now { self.new.now ≡ self.old.now }
     {
@@ -230,7 +230,7 @@ impl<A: Asks, T: Transport + EndsEarly + Drop, P: Poller<T>> Worker<A, T, P> {
 
     // Looks, where the last look is long enough ago.
     fn tick<R: Wait, W: Wakes>(&mut self, rt: &R, handover: &Handover<T, W>)
-        ensures run { HasRun A.answers ⟦<T as Transport>⟧ self.old.table self.old.asks self.new.table self.new.asks }
+        ensures run { HasRunAt A.answers ⟦<T as Transport>⟧ self.old.now (state self.old) (state self.new) }
     {
         if self.now.saturating_sub(self.looked) < TIMEOUT_CHECK_MILLIS {
             return;
@@ -242,7 +242,7 @@ impl<A: Asks, T: Transport + EndsEarly + Drop, P: Poller<T>> Worker<A, T, P> {
 
     // Waits for events, and notes which connections may go on. It doesn't wait while a connection has a turn.
     fn wait(&mut self, room: &mut [usize])
-        ensures run { HasRun A.answers ⟦<T as Transport>⟧ self.old.table self.old.asks self.new.table self.new.asks }
+        ensures run { HasRun A.answers ⟦<T as Transport>⟧ (state self.old) (state self.new) }
         ensures woken { (slots : List ℕ) × P.reported self.old.poller slots self.new.poller × HaveTurns slots self.old.table self.new.table }
     {
         let at_most = if self.table.is_ready() || self.has_made_room {
@@ -256,7 +256,7 @@ impl<A: Asks, T: Transport + EndsEarly + Drop, P: Poller<T>> Worker<A, T, P> {
 
     // Closes the connections that aren't being answered.
     fn close_unanswered(&mut self)
-        ensures run { HasRun A.answers ⟦<T as Transport>⟧ self.old.table self.old.asks self.new.table self.new.asks }
+        ensures run { HasRun A.answers ⟦<T as Transport>⟧ (state self.old) (state self.new) }
     {
         for slot in 0..self.table.len() {
             if let Some(mut connection) = self.table.close_unanswered(slot) {
@@ -267,7 +267,7 @@ impl<A: Asks, T: Transport + EndsEarly + Drop, P: Poller<T>> Worker<A, T, P> {
 
     // Obeys what it is to do now. Returns whether it ends, and how.
     fn obey(&mut self, orders: Orders) -> Ending
-        ensures run { HasRun A.answers ⟦<T as Transport>⟧ self.old.table self.old.asks self.new.table self.new.asks }
+        ensures run { HasRun A.answers ⟦<T as Transport>⟧ (state self.old) (state self.new) }
         ensures pressed { MatchBool orders.is_pressed (HasGivenWay (Slot self.old.now) self.old.table self.new.table) (self.new.table ≡ self.old.table) }
         ensures ending { result ≡ orders.ending }
     {
@@ -280,7 +280,7 @@ impl<A: Asks, T: Transport + EndsEarly + Drop, P: Poller<T>> Worker<A, T, P> {
 
     // Whether it has ended, in this way.
     fn has_ended(&mut self, ending: Ending) -> bool
-        ensures run { HasRun A.answers ⟦<T as Transport>⟧ self.old.table self.old.asks self.new.table self.new.asks }
+        ensures run { HasRun A.answers ⟦<T as Transport>⟧ (state self.old) (state self.new) }
     {
         match ending {
             Ending::GoesOn => return false,
@@ -299,18 +299,10 @@ impl<A: Asks, T: Transport + EndsEarly + Drop, P: Poller<T>> Worker<A, T, P> {
         }
     }
 
-    // Waits once, and does what is to be done then. Returns whether it has ended.
-    fn round<R: Clock + Wait, W: Wakes>(
-        &mut self,
-        rt: &R,
-        handover: &Handover<T, W>,
-        start: Instant,
-        room: &mut [usize],
-    ) -> bool
-        ensures run { HasRun A.answers ⟦<T as Transport>⟧ self.old.table self.old.asks self.new.table self.new.asks }
+    // Does what is to be done after a wait. Returns whether it has ended.
+    fn round<R: Wait, W: Wakes>(&mut self, rt: &R, handover: &Handover<T, W>) -> bool
+        ensures run { HasRun A.answers ⟦<T as Transport>⟧ (state self.old) (state self.new) }
     {
-        self.wait(room);
-        self.note_time(start.elapsed(rt).ok());
         // (no connection is handed over any more where a worker ends)
         let ending = self.obey(handover.orders(rt));
         self.take_over_all(rt, handover);
@@ -350,14 +342,16 @@ where
     T: Transport + EndsEarly + Drop,
     P: Poller<T> + Drop,
     W: Wakes,
-    ensures run { HasRun A.answers ⟦<T as Transport>⟧ worker.table worker.asks result.table result.asks }
+    ensures run { HasRun A.answers ⟦<T as Transport>⟧ (state worker) (state result) }
 {
     let Ok(start) = Instant::now(rt) else {
         return worker;
     };
     let mut room = [0; MAX_EVENTS];
     for _ in rt.forever() {
-        if worker.round(rt, handover, start, &mut room) {
+        worker.wait(&mut room);
+        worker.note_time(start.elapsed(rt).ok());
+        if worker.round(rt, handover) {
             return worker;
         }
     }

@@ -8,7 +8,8 @@ use Rattle.httpedge.specs.Connection.{Progress, Open, Decided, LeavesOpen, Ends,
 use Rattle.httpedge.specs.Exchange.{Said, IsReply, IsExchange, IsBegun}
 use Rattle.httpedge.specs.Meaning.{meaning_of, decision_meaning}
 use Rattle.httpedge.specs.Serving.{IsOpen, HasCome, came_of}
-use Rattle.httpedge.specs.Stopped.{HasExchanged, HasPaused, HasBroken, HasStopped}
+use Rattle.httpedge.specs.Stopped.{Effect, HasExchanged, HasPaused, HasBroken, HasStopped}
+use Rattle.streams.specs.declared.sink.Sink.{Ghosts as Sink}
 use Rattle.httpedge.specs.declared.conn.TheConstants.{REQUESTS}
 use Rattle.httpedge.specs.declared.edge.EdgeFault.TheVariants.{Read, Write}
 use Rattle.httpedge.specs.Turn.{IsTurn, Last}
@@ -59,33 +60,32 @@ pub opened-leaves : (p : Progress) → IsOpen p → LeavesOpen (came_of p)
 opened-leaves (Open came) opened = opened
 opened-leaves (Decided closes decided target) opened = absurd opened
 
--- the reader failed: the text sent so far was written
-pub read-stopped : {A S : Type 0} (answers : A → List ℕ → Said → A → Type 0) (held : S → Option (List ℕ)) (taken : S → ℕ) (a b : Option (List ℕ)) (read came text : List ℕ) (k : ℕ) (old new : A) (x y : S) (written : ℕ) →
-    Consumes a b read → HasCome answers REQUESTS read old text k came new → IsSent held taken x text y → written ≡ length text →
-    IfSome a (λ stream. HasStopped (Read written) answers held taken stream old new x y)
-read-stopped answers held taken a b read came text k old new x y written consumed come sent count =
-    whatever-follows a b read (λ stream. HasPaused answers held taken stream old new x written y) consumed
-    (λ more. record { text = text; begun = come-begun answers REQUESTS k read came text old new come more; sent = sent; count = count })
+module _ {A S : Type 0} (answers : A → List ℕ → Said → A → Type 0) (known : Sink S) (effect : Effect A S) where
+  -- the reader failed: the text sent so far was written
+  pub read-stopped : (a b : Option (List ℕ)) (read came text : List ℕ) (k written : ℕ) → Consumes a b read → HasCome answers REQUESTS read effect.asker text k came effect.asks
+      → IsSent known.held known.taken effect.before text effect.after → written ≡ length text → IfSome a (λ stream. HasStopped (Read written) answers known stream effect)
+  read-stopped a b read came text k written consumed come sent count =
+      whatever-follows a b read (λ stream. HasPaused answers known stream effect written) consumed
+      (λ more. record { text = text; begun = come-begun answers REQUESTS k read came text effect.asker effect.asks come more; sent = sent; count = count })
 
--- the writer failed in the answers to a piece
-pub piece-stopped : {A S : Type 0} (answers : A → List ℕ → Said → A → Type 0) (held : S → Option (List ℕ)) (taken : S → ℕ) (a b : Option (List ℕ)) (read text : List ℕ) (old new : A) (x y : S) (written : ℕ) →
-    Consumes a b read → ((more : List ℕ) → IsBegun answers REQUESTS (read ++ more) old text new) → IsCutSomewhere held taken x text y → taken y ≡ taken x + written →
-    IfSome a (λ stream. HasStopped (Write written) answers held taken stream old new x y)
-piece-stopped answers held taken a b read text old new x y written consumed begun cut count =
-    whatever-follows a b read (λ stream. HasBroken answers held taken stream old new x written y) consumed
-    (λ more. record { text = text; begun = begun more; cut = cut-at held taken x y text written count cut })
+  -- the writer failed in the answers to a piece
+  pub piece-stopped : (a b : Option (List ℕ)) (read text : List ℕ) (written : ℕ) → Consumes a b read → ((more : List ℕ) → IsBegun answers REQUESTS (read ++ more) effect.asker text effect.asks)
+      → IsCutSomewhere known.held known.taken effect.before text effect.after → known.taken effect.after ≡ known.taken effect.before + written
+      → IfSome a (λ stream. HasStopped (Write written) answers known stream effect)
+  piece-stopped a b read text written consumed begun cut count =
+      whatever-follows a b read (λ stream. HasBroken answers known stream effect written) consumed
+      (λ more. record { text = text; begun = begun more; cut = cut-at known.held known.taken effect.before effect.after text written count cut })
 
--- or in the answer to the end
-pub end-stopped : {A S : Type 0} (answers : A → List ℕ → Said → A → Type 0) (held : S → Option (List ℕ)) (taken : S → ℕ) (a b : Option (List ℕ)) (read text : List ℕ) (old new : A) (x y : S) (written : ℕ) →
-    Consumes a b read → IsAtEnd b → IsBegun answers REQUESTS read old text new → IsCutSomewhere held taken x text y → taken y ≡ taken x + written →
-    IfSome a (λ stream. HasStopped (Write written) answers held taken stream old new x y)
-end-stopped answers held taken a b read text old new x y written consumed end begun cut count =
-    Consumes-whole a b read (λ stream. HasBroken answers held taken stream old new x written y) consumed end
-    (record { text = text; begun = begun; cut = cut-at held taken x y text written count cut })
+  -- or in the answer to the end
+  pub end-stopped : (a b : Option (List ℕ)) (read text : List ℕ) (written : ℕ) → Consumes a b read → IsAtEnd b → IsBegun answers REQUESTS read effect.asker text effect.asks
+      → IsCutSomewhere known.held known.taken effect.before text effect.after → known.taken effect.after ≡ known.taken effect.before + written
+      → IfSome a (λ stream. HasStopped (Write written) answers known stream effect)
+  end-stopped a b read text written consumed end begun cut count =
+      Consumes-whole a b read (λ stream. HasBroken answers known stream effect written) consumed end
+      (record { text = text; begun = begun; cut = cut-at known.held known.taken effect.before effect.after text written count cut })
 
--- a head ended the connection: all was sent
-pub piece-exchanged : {A S : Type 0} (answers : A → List ℕ → Said → A → Type 0) (held : S → Option (List ℕ)) (taken : S → ℕ) (a b : Option (List ℕ)) (read text : List ℕ) (old new : A) (x y : S) →
-    Consumes a b read → ((more : List ℕ) → IsExchange answers REQUESTS (read ++ more) old text new) → IsSent held taken x text y →
-    IfSome a (λ stream. HasExchanged answers held taken stream old new x y)
-piece-exchanged answers held taken a b read text old new x y consumed all sent =
-    whatever-follows a b read (λ stream. HasExchanged answers held taken stream old new x y) consumed (λ more. record { text = text; exchange = all more; sent = sent })
+  -- a head ended the connection: all was sent
+  pub piece-exchanged : (a b : Option (List ℕ)) (read text : List ℕ) → Consumes a b read → ((more : List ℕ) → IsExchange answers REQUESTS (read ++ more) effect.asker text effect.asks)
+      → IsSent known.held known.taken effect.before text effect.after → IfSome a (λ stream. HasExchanged answers known stream effect)
+  piece-exchanged a b read text consumed all sent =
+      whatever-follows a b read (λ stream. HasExchanged answers known stream effect) consumed (λ more. record { text = text; exchange = all more; sent = sent })

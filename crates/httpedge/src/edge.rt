@@ -1,4 +1,4 @@
-ghost use Rattle.std.specs.Prelude.{◌≡◌, ◌||◌, ◌+◌, ◌<◌, ◌≤◌, ◌++◌, ℕ, List, [], Bool, Some, not, length, OnOk, OnErr, IfOk, IfErr, IfSome, MatchResult, Result, true};
+ghost use Rattle.std.specs.Prelude.{◌≡◌, ◌||◌, ◌+◌, ◌-◌, ◌<◌, ◌≤◌, ◌++◌, ℕ, List, [], Bool, Some, not, length, OnOk, OnErr, IfOk, IfErr, IfSome, MatchResult, Result, true};
 ghost use Rattle.std.specs.Io.KnownBytes.{Consumes};
 ghost use Rattle.streams.specs.Sent.{IsSent, IsCutSomewhere};
 ghost use Rattle.answers.specs.declared.answer.Answer.{Answer};
@@ -10,6 +10,7 @@ ghost use Rattle.httpedge.specs.Response.{response};
 ghost use Rattle.httpedge.specs.Serving.{IsReading, Serves, requests_left, came_of, missing};
 ghost use Rattle.httpedge.specs.Stopped.{HasExchanged, HasStopped, HasKeptUp, is_read, written_of};
 ghost use Rattle.answers.specs.declared.asks.Busy.{Busy};
+ghost use Rattle.httpedge.specs.declared.edge.EdgeFault.TheVariants.{Read, Write};
 
 use crate::session::reply;
 use crate::{Asks, Busy, Conn, Decision, Outcome};
@@ -34,6 +35,28 @@ pub enum EdgeFault {
         /// How many bytes it took, of all answers.
         written: u128,
     },
+}
+
+impl EdgeFault {
+    // That the reader failed, by how many bytes the writer had taken before the exchange.
+    fn of_reader<W: Sink>(writer: &W, before: u128) -> Self
+        requires grown { before ≤ W.taken writer.now }
+        ensures { result ≡ Read (W.taken writer.now - before) }
+    {
+        EdgeFault::Read {
+            written: writer.taken() - before,
+        }
+    }
+
+    // That the writer failed, by how many bytes it had taken before the exchange.
+    fn of_writer<W: Sink>(writer: &W, before: u128) -> Self
+        requires grown { before ≤ W.taken writer.now }
+        ensures { result ≡ Write (W.taken writer.now - before) }
+    {
+        EdgeFault::Write {
+            written: writer.taken() - before,
+        }
+    }
 }
 
 // The outcome of a query.
@@ -147,10 +170,12 @@ pub fn exchange<R: Source, W: Sink, A: Asks>(
     asks: &mut A,
 ) -> Result<(), EdgeFault>
     requires new { conn.old ≡ record { done = 0; progress = Open [] } }
-    ensures exchanged { OnOk result (IfSome (R.left reader.old) (λ stream. HasExchanged A.answers W.held W.taken stream asks.old asks.new writer.old writer.new)) }
-    ensures stopped { IfErr result (λ fault. IfSome (R.left reader.old) (λ stream. HasStopped fault A.answers W.held W.taken stream asks.old asks.new writer.old writer.new)) }
+    ensures exchanged { OnOk result (IfSome (R.left reader.old) (λ stream. HasExchanged A.answers ⟦<W as Sink>⟧ stream
+        (record { asker = asks.old; asks = asks.new; before = writer.old; after = writer.new }))) }
+    ensures stopped { IfErr result (λ fault. IfSome (R.left reader.old) (λ stream. HasStopped fault A.answers ⟦<W as Sink>⟧ stream
+        (record { asker = asks.old; asks = asks.new; before = writer.old; after = writer.new }))) }
     ensures kept_up { IfErr result (λ fault. is_read fault ≡ true → (read : List ℕ) × Consumes (R.left reader.old) (R.left reader.new) read
-        × HasKeptUp A.answers W.held W.taken read asks.old asks.new writer.old writer.new) }
+        × HasKeptUp A.answers ⟦<W as Sink>⟧ read (record { asker = asks.old; asks = asks.new; before = writer.old; after = writer.new })) }
     ensures written { IfErr result (λ fault. W.taken writer.new ≡ W.taken writer.old + written_of fault) }
     ensures read_flag { MatchResult result (λ _. R.take_failed reader.new ≡ R.take_failed reader.old) (λ fault. R.take_failed reader.new ≡ (is_read fault || R.take_failed reader.old)) }
     ensures write_flag { MatchResult result (λ _. W.put_failed writer.new ≡ W.put_failed writer.old) (λ fault. W.put_failed writer.new ≡ (not (is_read fault) || W.put_failed writer.old)) }
@@ -160,31 +185,20 @@ pub fn exchange<R: Source, W: Sink, A: Asks>(
     let before = writer.taken();
     let mut room = [0; PIECE];
     loop {
-        let count = match reader.take(&mut room) {
-            Ok(count) => count,
-            Err(_) => {
-                return Err(EdgeFault::Read {
-                    written: writer.taken() - before,
-                });
-            }
+        let Ok(count) = reader.take(&mut room) else {
+            return Err(EdgeFault::of_reader(writer, before));
         };
         if count == 0 {
             return match answer_end(conn, writer, asks) {
                 Ok(()) => Ok(()),
-                Err(_) => Err(EdgeFault::Write {
-                    written: writer.taken() - before,
-                }),
+                Err(PutFailed) => Err(EdgeFault::of_writer(writer, before)),
             };
         }
         let (piece, _) = room.split_at(count);
         match answer_piece(conn, piece, writer, asks) {
             Ok(true) => {}
             Ok(false) => return Ok(()),
-            Err(_) => {
-                return Err(EdgeFault::Write {
-                    written: writer.taken() - before,
-                });
-            }
+            Err(PutFailed) => return Err(EdgeFault::of_writer(writer, before)),
         }
     }
 }

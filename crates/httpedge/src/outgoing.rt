@@ -1,14 +1,12 @@
 ghost use Rattle.std.specs.Prelude.{◌≡◌, ◌≤◌, ◌+◌, ◌++◌, [], ◌∷◌, length, take, drop, true, false, ◌==◌, codes};
-ghost use Rattle.operations.specs.Mime.{mime_text};
 ghost use Rattle.httpedge.specs.Response.{head_end, refusal_lines, busy_lines, body_text, answer_text, response};
 ghost use Rattle.httpedge.specs.Outgoing.{answer_head, body_of};
 
-use crate::response::{busy_lines, head_end, refusal_lines};
+use crate::response::{busy_lines, head_end, mime_bytes, refusal_lines};
 use crate::{Outcome, Refusal};
 use answers::Answer;
 use itoa::Buffer;
 use mapdefs::Items;
-use operations::Mime;
 use std::marker::Model;
 
 // How many bytes the head of a response has, at most.
@@ -102,21 +100,6 @@ fn busy_head(closing: bool) -> ResponseHead
     head.add(busy_lines());
     head.add(head_end(closing));
     head
-}
-
-// A mime type as it is written.
-#[tactic(auto, unfolding(operations::specs::Mime::mime_text))]
-fn mime_bytes<'a>(mime: Mime) -> &'a [u8]
-    ensures text { result.now ≡ mime_text mime }
-    ensures short { length result.now ≤ 64 }
-{
-    match mime {
-        Mime::Png => b"image/png",
-        Mime::Pixmap => b"image/x-portable-pixmap",
-        Mime::ArbitraryMap => b"image/x-portable-arbitrarymap",
-        Mime::Xml => b"text/xml",
-        Mime::Plain => b"text/plain",
-    }
 }
 
 /// The bytes of a response that are still to be sent: the rest of its head, and the rest of its body, which

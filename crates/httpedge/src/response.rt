@@ -1,10 +1,12 @@
 ghost use Rattle.std.specs.Prelude.{◌≡◌, ◌≤◌, length, OnOk, OnErr, IfErr, MatchResult, true, codes};
+ghost use Rattle.operations.specs.Mime.{mime_text};
 ghost use Rattle.streams.specs.Sent.{IsSent, IsCut, IsCutSomewhere};
 ghost use Rattle.httpedge.specs.Response.{head_end, refusal_lines, busy_lines, body_text, answer_text, response};
 
 use crate::{Outcome, Refusal};
 use answers::Answer;
 use itoa::Buffer;
+use operations::Mime;
 use streams::{PutFailed, Sink, WriteFault, put_pieces};
 
 /// The end of a head.
@@ -44,29 +46,43 @@ pub(crate) fn busy_lines() -> &'static [u8]
     b"HTTP/1.1 503 Service Unavailable\r\nContent-Length: 0\r\n"
 }
 
-// Writes the head of an answer, and its body, which isn't copied.
+/// A mime type as it is written.
+#[tactic(auto, unfolding(operations::specs::Mime::mime_text))]
+pub(crate) fn mime_bytes<'a>(mime: Mime) -> &'a [u8]
+    ensures text { result.now ≡ mime_text mime }
+    ensures short { length result.now ≤ 64 }
+{
+    match mime {
+        Mime::Png => b"image/png",
+        Mime::Pixmap => b"image/x-portable-pixmap",
+        Mime::ArbitraryMap => b"image/x-portable-arbitrarymap",
+        Mime::Xml => b"text/xml",
+        Mime::Plain => b"text/plain",
+    }
+}
+
+// Writes an answer, of whose body this is the length in digits: its head, and its body, which isn't copied.
 #[tactic(auto, unfolding(crate::specs::Response::body_text))]
 fn send_body<'a, W: Sink>(
-    mime: &'a [u8],
+    answer: &'a Answer,
     count: &'a [u8],
-    body: &'a [u8],
     closing: bool,
     writer: &mut W,
 ) -> Result<(), PutFailed>
-    ensures sent { OnOk result (IsSent W.held W.taken writer.old (body_text mime.now count.now body.now closing) writer.new) }
-    ensures cut { OnErr result (IsCutSomewhere W.held W.taken writer.old (body_text mime.now count.now body.now closing) writer.new) }
+    ensures sent { OnOk result (IsSent W.held W.taken writer.old (body_text (mime_text answer.now.mime) count.now answer.now.body closing) writer.new) }
+    ensures cut { OnErr result (IsCutSomewhere W.held W.taken writer.old (body_text (mime_text answer.now.mime) count.now answer.now.body closing) writer.new) }
     ensures flag { MatchResult result (λ _. W.put_failed writer.new ≡ W.put_failed writer.old) (λ _. W.put_failed writer.new ≡ true) }
 {
     put_pieces(
         writer,
         &[
             b"HTTP/1.1 200 OK\r\nContent-Type: ",
-            mime,
+            mime_bytes(answer.mime),
             b"\r\nContent-Length: ",
             count,
             b"\r\n",
             head_end(closing),
-            body,
+            answer.body.as_slice(),
         ],
     )
 }
@@ -79,8 +95,7 @@ fn send_answer<W: Sink>(answer: &Answer, closing: bool, writer: &mut W) -> Resul
 {
     let mut digits = Buffer::new();
     let count = digits.format(answer.body.len() as u64).as_bytes();
-    let mime = answer.mime.text().as_bytes();
-    send_body(mime, count, answer.body.as_slice(), closing, writer)
+    send_body(answer, count, closing, writer)
 }
 
 // Writes an outcome.

@@ -5,12 +5,11 @@ use Rattle.batches.specs.Batch.{accepted}
 use Rattle.compaction.specs.Compacted.{compacted, skipping}
 use Rattle.compaction.proofs.Counting.{skipping-more}
 use Rattle.compaction.proofs.Leading.{leads_to_the_same}
-use Rattle.sha2.specs.Sha256.{sha256}
 use Rattle.sharing.specs.Shortened.{IsShortOf}
 use Rattle.sharing.proofs.Shortened.{short_again, short_more}
 use Rattle.journal.specs.Name.{name_bytes}
 use Rattle.journal.specs.declared.name.JournalName.{JournalName}
-use Rattle.journal.specs.Record.{name_of, journal_of}
+use Rattle.journal.specs.Record.{name_of}
 use Rattle.journal.specs.Reading.{StandsFor, StandsForFirst}
 use Rattle.journal.proofs.Standing.{stands}
 use Rattle.journalfile.specs.Compacting.{HasCompacted, IsCompacted, StandsForLeft, left_out}

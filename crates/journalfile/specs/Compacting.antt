@@ -1,5 +1,5 @@
 -- A journal that is compacted (docs/SERVICE.md, "Journal").
-use Rattle.std.specs.Prelude.{◌≡◌, ◌⊎◌, ◌<◌, ◌^◌, ℕ, ◌+◌, ◌-◌, List, ◌++◌, length, drop, Bool, true, false}
+use Rattle.std.specs.Prelude.{◌≡◌, ◌⊎◌, ◌<◌, ◌^◌, ℕ, ◌+◌, ◌-◌, ◌*◌, max, min, List, ◌++◌, length, drop, Bool, true, false}
 use Rattle.sha2.specs.Sha256.{sha256}
 use Rattle.compaction.specs.Compacted.{commands_of, compacted}
 use Rattle.journal.specs.Name.{name_bytes}
@@ -7,6 +7,7 @@ use Rattle.journal.specs.declared.name.JournalName.{JournalName}
 use Rattle.journal.specs.Record.{name_of, records}
 use Rattle.journal.specs.Reading.{StandsFor}
 use Rattle.journalfile.specs.Settled.{IsSettled}
+use Rattle.journalfile.specs.declared.checkpoint.Checkpoint.{Checkpoint}
 use Rattle.journalfile.specs.declared.reading.Reader.{Reader}
 use Rattle.journalfile.specs.declared.writing.Journal.{Journal}
 
@@ -45,3 +46,7 @@ abbrev pub StandsForLeft : JournalName → List (List ℕ) → List ℕ → Type
 StandsForLeft name batches file =
     StandsFor (name_bytes name) file batches
     ⊎ ((name.skipped + left_out batches < 2 ^ 64) × StandsFor (name_of name.fingerprint (name.skipped + left_out batches)) file (compacted batches))
+
+-- a journal of this length, in bytes, is compacted next where it has twice as many, and the least length at least
+abbrev pub next_checkpoint : Checkpoint → ℕ → Checkpoint
+next_checkpoint checkpoint length = record checkpoint { due = max (min (2 * length) (2 ^ 64 - 1)) checkpoint.least }

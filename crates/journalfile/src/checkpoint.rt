@@ -6,7 +6,7 @@ ghost use Rattle.compaction.specs.Compacted.{commands_of, compacted};
 ghost use Rattle.compaction.specs.LastChanges.{AreLast};
 ghost use Rattle.journal.specs.Name.{name_bytes};
 ghost use Rattle.journal.specs.Record.{journal_of};
-ghost use Rattle.journalfile.specs.Compacting.{HasCompacted, IsCompacted, StandsForLeft};
+ghost use Rattle.journalfile.specs.Compacting.{HasCompacted, IsCompacted, StandsForLeft, next_checkpoint};
 ghost use Rattle.journalfile.specs.Frames.{IsRead};
 ghost use Rattle.journalfile.specs.Keeping.{FileHas, JournalHas};
 ghost use Rattle.journalfile.specs.Log.{LeavesOnly, Only};
@@ -151,8 +151,12 @@ pub struct CompactedJournal<L> {
 }
 
 impl<L: Replaceable> CompactedJournal<L> {
-    /// Compacts the journal where it is due, and says when it is due next: where it has twice the bytes that it has now.
+    /// Compacts the journal where it is due, and says when it is due next: where it has twice the bytes that it has now, and the least
+    /// length at least. Before it is due, nothing changes.
     pub(crate) fn compact_where_due(&mut self) -> Result<(), L::Failure>
+        ensures early { self.old.journal.length < self.old.checkpoint.due → self.new ≡ self.old }
+        ensures next { self.old.checkpoint.due ≤ self.old.journal.length
+            → OnOk result (self.new.checkpoint ≡ next_checkpoint self.old.checkpoint self.new.journal.length) }
         ensures has { L.reliable → OnOk result ((batches : List (List ℕ)) → JournalHas L.content L.may_leave self.old.journal batches
             → JournalHas L.content L.may_leave self.new.journal batches) }
         ensures any_moment { L.reliable → (batches : List (List ℕ)) → JournalHas L.content L.may_leave self.old.journal batches

@@ -12,11 +12,11 @@ use Rattle.gridindex.specs.contracts.grid.Grid as Grid
 use Rattle.mapdefs.proofs.expr.Expr.TheLaws.TheKnot as Knot
 use Rattle.mapdefs.specs.contracts.block_box.BlockBox as BlockBox
 use Rattle.mapdefs.specs.contracts.boxed.Boxed as Boxed
+use Rattle.mapdefs.specs.contracts.chain.Chain as Chain
 use Rattle.mapdefs.specs.contracts.class.ClassFields as ClassFields
 use Rattle.mapdefs.specs.contracts.class.Rule as Rule
 use Rattle.mapdefs.specs.contracts.colour.Rgb as Rgb
 use Rattle.mapdefs.specs.contracts.expr.Expr as Expr
-use Rattle.mapdefs.specs.contracts.expr.Operand as Operand
 use Rattle.mapdefs.specs.contracts.feature.FeatureFields as FeatureFields
 use Rattle.mapdefs.specs.contracts.font.FontFields as FontFields
 use Rattle.mapdefs.specs.contracts.font.Glyph as Glyph
@@ -26,12 +26,17 @@ use Rattle.mapdefs.specs.contracts.layer.LayerFields as LayerFields
 use Rattle.mapdefs.specs.contracts.limited.Limited as Limited
 use Rattle.mapdefs.specs.contracts.map.MapFields as MapFields
 use Rattle.mapdefs.specs.contracts.part.Part as Part
+use Rattle.mapdefs.specs.contracts.part.Vertices as Vertices
+use Rattle.mapdefs.specs.contracts.part_list.PartList as PartList
+use Rattle.mapdefs.specs.contracts.part_list.Parts as Parts
 use Rattle.mapdefs.specs.contracts.shared.Shared as Shared
 use Rattle.mapdefs.specs.contracts.shared_items.SharedItems as SharedItems
 use Rattle.mapdefs.specs.contracts.style.StyleFields as StyleFields
 use Rattle.mapdefs.specs.contracts.symbol.PixmapFields as PixmapFields
 use Rattle.mapdefs.specs.contracts.symbol.Symbol as Symbol
 use Rattle.mapdefs.specs.contracts.text.Text as Text
+use Rattle.mapdefs.specs.contracts.texts.Texts as Texts
+use Rattle.mapdefs.specs.contracts.values.Values as Values
 use Rattle.mapdefs.specs.declared.limited.Limits.{Ghosts}
 use Rattle.layers.specs.contracts.layers.Layers as Layers
 use Rattle.mapmachine.specs.contracts.machine.Machine as Machine
@@ -69,11 +74,17 @@ block_box-send = search (coordinate-send, fielded) depth 12
 pub block_box-sync : IsSync BlockBox.the_row
 block_box-sync = search (coordinate-sync, fielded) depth 12
 
-pub part-send : IsSend Part.the_row
-part-send = search (world-send, block_box-send, fielded) depth 12
+pub chain-send : IsSend Chain.the_row
+chain-send = search (world-send, block_box-send, fielded) depth 12
 
-pub part-sync : IsSync Part.the_row
-part-sync = search (world-sync, block_box-sync, fielded) depth 12
+pub chain-sync : IsSync Chain.the_row
+chain-sync = search (world-sync, block_box-sync, fielded) depth 12
+
+pub texts-send : IsSend Texts.the_row
+texts-send = search (fielded) depth 12
+
+pub texts-sync : IsSync Texts.the_row
+texts-sync = search (fielded) depth 12
 
 module _ (R : RattleType) where
   pub items-send : IsSend R → IsSend (Items.the_row R)
@@ -105,8 +116,51 @@ module _ (R : RattleType) where
       let whole = shared-sync (Items.the_row R) (items-send R s) (items-sync R y) in
       search (fielded) depth 9
 
+-- one vertex or a chain, and one part or several
+pub vertices-send : IsSend Vertices.the_row
+vertices-send =
+    let chain = shared-send Chain.the_row chain-send chain-sync in
+    search (world-send, chain, fielded) depth 60 fits 20000
+
+pub vertices-sync : IsSync Vertices.the_row
+vertices-sync =
+    let chain = shared-sync Chain.the_row chain-send chain-sync in
+    search (world-sync, chain, fielded) depth 60 fits 20000
+
+pub part-send : IsSend Part.the_row
+part-send = search (vertices-send, fielded) depth 12
+
+pub part-sync : IsSync Part.the_row
+part-sync = search (vertices-sync, fielded) depth 12
+
+pub parts-send : IsSend Parts.the_row
+parts-send =
+    let many = shared_items-send Part.the_row part-send part-sync in
+    search (part-send, many, fielded) depth 60 fits 20000
+
+pub parts-sync : IsSync Parts.the_row
+parts-sync =
+    let many = shared_items-sync Part.the_row part-send part-sync in
+    search (part-sync, many, fielded) depth 60 fits 20000
+
+pub part_list-send : IsSend PartList.the_row
+part_list-send = search (parts-send, fielded) depth 12
+
+pub part_list-sync : IsSync PartList.the_row
+part_list-sync = search (parts-sync, fielded) depth 12
+
+pub values-send : IsSend Values.the_row
+values-send =
+    let whole = shared-send Texts.the_row texts-send texts-sync in
+    search (fielded) depth 12
+
+pub values-sync : IsSync Values.the_row
+values-sync =
+    let whole = shared-sync Texts.the_row texts-send texts-sync in
+    search (fielded) depth 12
+
 -- the types that maps are made of
-ruleset wrapped = (text-send, text-sync, micro-send, micro-sync, world-send, world-sync, part-send, part-sync, items-send, items-sync, boxed-send, boxed-sync, shared-send, shared-sync, shared_items-send, shared_items-sync, fielded)
+ruleset wrapped = (text-send, text-sync, micro-send, micro-sync, world-send, world-sync, part_list-send, part_list-sync, values-send, values-sync, items-send, items-sync, boxed-send, boxed-sync, shared-send, shared-sync, shared_items-send, shared_items-sync, fielded)
 
 pub feature-send : IsSend FeatureFields.the_row
 feature-send = search (wrapped) depth 12

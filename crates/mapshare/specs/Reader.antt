@@ -1,5 +1,5 @@
 -- The value of a reader (docs/SERVICE.md, "Sharing").
-use Rattle.std.specs.Prelude.{ℕ, Bool, true, false, List, []}
+use Rattle.std.specs.Prelude.{ℕ, Bool, true, false, List}
 
 -- the batches that a reader knows to be published, those that its last entry showed, and whether it has its part of the map. An entry has that part
 -- until the entry ends

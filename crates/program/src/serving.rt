@@ -263,8 +263,8 @@ impl<R: Runtime, H: Host> Program<'_, R, H> {
         open_journal(alloc, place, fingerprint, map)
     }
 
-    /// Serves a map that was read in the state after the batches of its journal, which keeps those that follow. It listens on two ports for
-    /// that. It reports why the journal can't be opened, or that the journal failed; and that a torn tail was cut off, where that is requested or a
+    /// Serves a map that was read in the state after the batches of its journal. The journal keeps those that follow; where it is compacted,
+    /// it keeps the state that they lead to. It listens on two ports for that. It reports why the journal can't be opened, or that the journal failed; and that a torn tail was cut off, where that is requested or a
     /// log is kept.
     pub fn serve_kept<I, O: Sink, E: Sink>(
         &self,

@@ -10,20 +10,23 @@ mod transcript;
 
 use crate::transcript::readable;
 use commandline::Command;
-use console::Console;
+use console::{Console, Failure};
 use network::Runtime;
 use program::{Program, SystemHost};
+use std::alloc::Global;
 use std::io::{self, BufWriter, Write};
 use streams::Flagged;
 
-// Plays the case of that name, and writes the output: the transcript, the report of a fault, and the exit status, where
-// it isn't 0.
-fn play<R: Runtime, W: Write>(
-    rt: &R,
-    system: &HostRuntime,
-    name: &str,
-    output: &mut W,
-) -> io::Result<()> {
+// What a case wrote to its streams, and how it ended.
+#[derive(Drop)]
+struct Played {
+    transcript: Vec<u8>,
+    report: Vec<u8>,
+    outcome: Result<(), Failure>,
+}
+
+// Plays the case of that name.
+fn play<R: Runtime>(rt: &R, system: &HostRuntime, name: &str) -> io::Result<Played> {
     let alloc = rt.alloc();
     let file = format!(in alloc; "{name}/map")?;
     let script = format!(in alloc; "{name}/script")?;
@@ -43,13 +46,27 @@ fn play<R: Runtime, W: Write>(
         explains: false,
     };
     let ending = program.perform(command, &mut console);
+    Ok(Played {
+        transcript: console.output.into_inner(),
+        report: console.errors.into_inner(),
+        outcome: ending.outcome(),
+    })
+}
+
+// Writes a case: its name, the transcript, the report of a fault, and the exit status, where it isn't 0.
+fn write_case<W: Write>(
+    alloc: Global,
+    name: &str,
+    played: &Played,
+    output: &mut W,
+) -> io::Result<()> {
     writeln!(output, "== {name}")?;
-    match str::from_utf8(console.output.inner().as_slice()) {
+    match str::from_utf8(played.transcript.as_slice()) {
         Ok(text) => output.write_all(readable(alloc, text)?.as_bytes())?,
         Err(_) => output.write_all(b"not UTF-8\n")?,
     }
-    output.write_all(console.errors.inner().as_slice())?;
-    match ending.outcome() {
+    output.write_all(played.report.as_slice())?;
+    match played.outcome {
         Ok(()) => Ok(()),
         Err(failure) => writeln!(output, "status {}", failure.status()),
     }
@@ -58,7 +75,9 @@ fn play<R: Runtime, W: Write>(
 fn main(rt: HostRuntime) -> io::Result<()> {
     let mut output = BufWriter::new(rt.alloc(), io::writer(&rt))?;
     for name in rt.lines(rt.alloc()) {
-        play(&rt, &rt, name?.as_str(), &mut output)?;
+        let name = name?;
+        let played = play(&rt, &rt, name.as_str())?;
+        write_case(rt.alloc(), name.as_str(), &played, &mut output)?;
     }
     output.flush()
 }

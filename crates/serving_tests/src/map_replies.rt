@@ -4,8 +4,8 @@ ghost use Rattle.mapdefs.specs.declared.limits.TheConstants.{MAX_LAYERS};
 
 use geom::{Coordinate, Micro, NUMBER_LIMIT, World};
 use mapdefs::{
-    Class, ClassFields, Feature, FeatureFields, Items, Layer, Map, Part, Rgb, Rule, SharedItems,
-    Style, StyleFields, Text,
+    Class, ClassFields, Feature, FeatureFields, Items, Layer, Map, Part, PartList, Rgb, Rule,
+    SharedItems, Style, StyleFields, Text, Values,
 };
 use mapmachine::Machine;
 use std::alloc::{AllocError, Global};
@@ -50,11 +50,11 @@ fn square(alloc: Global) -> Result<Feature, AllocError>
     ring.push(place(1, -1))?;
     ring.push(place(1, 1))?;
     ring.push(place(-1, 1))?;
-    let parts = Items::of(vec![in alloc; Part::of(alloc, ring)?]?);
+    let parts = PartList::one(Part::of(alloc, ring)?);
     Ok(Feature::new(FeatureFields {
         parts,
         text: None,
-        values: Items::new(alloc),
+        values: Values::none(),
     }))
 }
 

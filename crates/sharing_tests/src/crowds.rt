@@ -116,7 +116,7 @@ where
         left: count - 4,
         gate: Arc::try_clone(&gate)?,
     };
-    let done = work(rt, alloc, machines(alloc)?, &mut crowd, &gate);
+    let done = work(rt, machines(alloc)?, &mut crowd, &gate);
     let ends = ends_of(alloc, &crowd.calls, count)?;
     format!(in alloc; "{} {ends}", done.is_ok())
 }

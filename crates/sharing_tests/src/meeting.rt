@@ -60,7 +60,7 @@ where
 {
     match open::<S, R>(rt, rt.alloc(), blank, machine, 2) {
         Ok((admin, readers)) => {
-            let done = work(rt, rt.alloc(), readers, calls, gate);
+            let done = work(rt, readers, calls, gate);
             admin.close(rt);
             done.is_ok()
         }

@@ -119,7 +119,7 @@ where
     let alloc = rt.alloc();
     let Workers { list, queries } = three_workers(rt)?;
     let gate = Arc::new(alloc, OpenGate)?;
-    let done = work(rt, alloc, list, &mut calls, &gate);
+    let done = work(rt, list, &mut calls, &gate);
     let mut text = format!(in alloc; "{}:{}", done.is_ok(), queries_text(rt, &queries)?)?;
     for number in 1..=count {
         text = format!(in alloc; "{text}\n{number} {}", calls.end_of(number)?)?;
@@ -184,7 +184,7 @@ where
     calls.add(HEAD, 7, false, usize::MAX)?;
     let none: Vec<Machine> = Vec::new(alloc);
     let gate = Arc::new(alloc, OpenGate)?;
-    let done = work(rt, alloc, none, &mut calls, &gate);
+    let done = work(rt, none, &mut calls, &gate);
     format!(in alloc; "{} {}", done.is_err(), calls.waiting())
 }
 

@@ -10,7 +10,7 @@ use Rattle.turns.specs.Connection.{IsTurn, next_by}
 use Rattle.turns.specs.Drain.{next_drained, phase_drained}
 use Rattle.turns.proofs.Order.{has-joined, has-joins}
 use Rattle.turns.specs.Queue.{has, joined, joins, before}
-use Rattle.turns.specs.Runs.{Step, Opens, Wakes, Serves, Leaves, IsNew, Turned, Steps, Runs, comes, all_come, AreSaid, IsAnswered, IsQuiet, IsKept, RunsAnswer, RunsServe, TurnsStay, HasRun, turns_of}
+use Rattle.turns.specs.Runs.{Step, Opens, Wakes, Serves, Leaves, IsNew, SlotTurn, IsTurnOf, Steps, Runs, WorkerState, comes, all_come, AreSaid, IsAnswered, IsQuiet, IsKept, RunsAnswer, RunsServe, TurnsStay, HasRun, turns_of}
 use Rattle.turns.specs.Slots.{at_slot, HasTurn}
 use Rattle.turns.specs.Table.{Goes, connections, ready_slots, waiting_slots, has_room, KeepsWaiting}
 use Rattle.turns.specs.Times.{is_over, is_draining}
@@ -185,11 +185,11 @@ module _ {A T : Type 0} (answers : A → List ℕ → Said → A → Type 0) (kn
   goes-ready : (old new : ConnectionTable T) → Goes old new → (slot : ℕ) → has slot (ready_slots old) ≡ true → has slot (ready_slots new) ≡ true
   goes-ready old new goes slot there = rw goes.joins.1 (has-joins slot (ready_slots old) goes.joins.0 there)
 
-  step-keeps : HasRespondedWith [] [] [] new_session → (found : ℕ → Option (OpenConnection T)) (old new : ConnectionTable T) (asker asks : A) (step : Step T)
-      → Steps answers known old asker step new asks → Kept found old → Kept (comes found step) new
-  step-keeps starts found old new asker asks (Opens slot connection) (same, fresh, here, others, ready, goes) kept other now at = go (slot == other) refl
+  step-keeps : HasRespondedWith [] [] [] new_session → (found : ℕ → Option (OpenConnection T)) (old new : WorkerState A T) (step : Step T)
+      → Steps answers known old step new → Kept found old.table → Kept (comes found step) new.table
+  step-keeps starts found old new (Opens slot connection) (same, fresh, here, others, ready, goes) kept other now at = go (slot == other) refl
     where
-      go : (b : Bool) → (slot == other) ≡ b → IsKept answers known (comes found (Opens slot connection)) new other now
+      go : (b : Bool) → (slot == other) ≡ b → IsKept answers known (comes found (Opens slot connection)) new.table other now
       go true e =
           let equal : slot ≡ other = eqb-true slot other e in
           let is : now ≡ connection = cc (at, here, equal) in
@@ -197,59 +197,61 @@ module _ {A T : Type 0} (answers : A → List ℕ → Said → A → Type 0) (kn
             first = connection;
             came = rw e refl;
             answered = subst (λ (c : OpenConnection T). IsAnswered answers known connection c) (sym is) (new-answered connection fresh starts);
-            held = inl (subst (λ (k : ℕ). has k (ready_slots new) ≡ true) equal ready);
+            held = inl (subst (λ (k : ℕ). has k (ready_slots new.table) ≡ true) equal ready);
           }
       go false e =
           let apart : other ≡ slot → ⊥ = λ equal. eqb-false slot other e (sym equal) in
-          still found (comes found (Opens slot connection)) old new other now (rw e refl) (goes-ready old new goes other) goes.keeps (kept other now (sym (others other apart) ∙ at))
-  step-keeps starts found old new asker asks (Wakes slot) (same, stay, goes) kept other now at =
-      still found (comes found (Wakes slot)) old new other now refl (goes-ready old new goes other) goes.keeps (kept other now (ap (λ l. at_slot l other) (sym stay) ∙ at))
-  step-keeps starts found old new asker asks (Leaves slot why) (same, reason, gone, others, goes) kept other now at = go (slot == other) refl
+          still found (comes found (Opens slot connection)) old.table new.table other now (rw e refl) (goes-ready old.table new.table goes other) goes.keeps (kept other now (sym (others other apart) ∙ at))
+  step-keeps starts found old new (Wakes slot) (same, stay, goes) kept other now at =
+      still found (comes found (Wakes slot)) old.table new.table other now refl (goes-ready old.table new.table goes other) goes.keeps (kept other now (ap (λ l. at_slot l other) (sym stay) ∙ at))
+  step-keeps starts found old new (Leaves slot why) (same, reason, gone, others, goes) kept other now at = go (slot == other) refl
     where
-      go : (b : Bool) → (slot == other) ≡ b → IsKept answers known (comes found (Leaves slot why)) new other now
-      go true e = let equal : slot ≡ other = eqb-true slot other e in absurd (let none : ◌≡◌ {A = Option (OpenConnection T)} None (Some now) = sym (ap (at_slot (connections new)) (sym equal) ∙ gone) ∙ at in cc none)
+      go : (b : Bool) → (slot == other) ≡ b → IsKept answers known (comes found (Leaves slot why)) new.table other now
+      go true e = let equal : slot ≡ other = eqb-true slot other e in absurd (let none : ◌≡◌ {A = Option (OpenConnection T)} None (Some now) = sym (ap (at_slot (connections new.table)) (sym equal) ∙ gone) ∙ at in cc none)
       go false e =
           let apart : other ≡ slot → ⊥ = λ equal. eqb-false slot other e (sym equal) in
-          still found (comes found (Leaves slot why)) old new other now refl (goes-ready old new goes other) goes.keeps (kept other now (sym (others other apart) ∙ at))
-  step-keeps starts found old new asker asks (Serves slot result moment) turn kept other now at = go (slot == other) refl
+          still found (comes found (Leaves slot why)) old.table new.table other now refl (goes-ready old.table new.table goes other) goes.keeps (kept other now (sym (others other apart) ∙ at))
+  step-keeps starts found old new (Serves turn) had kept other now at = go (turn.slot == other) refl
     where
-      own : (r : Option Next) → result ≡ r → slot ≡ other → Turned answers known old asker slot r moment (connections new) asks → IsKept answers known (comes found (Serves slot result moment)) new other now
-      own None none equal (stay, still_asks, free) = absurd (let clash : ◌≡◌ {A = Option (OpenConnection T)} None (Some now) = sym free ∙ ap (at_slot (connections old)) equal ∙ ap (λ l. at_slot l other) (sym stay) ∙ at in cc clash)
-      own (Some next) is equal had =
-          let same : had.after ≡ now = cc (had.is, at, equal) in
-          let before = kept slot had.before had.was in
-          let held : (has slot (ready_slots new) ≡ true) ⊎ ((has slot (waiting_slots new) ≡ true) ⊎ IsQuiet known had.after) = elim (turn-held (has_room old) moment had.before had.after asker asks next had.turn) [
-            | inl again ↦ inl (turn.turns (is ∙ ap Some again))
-            | inr (inl room) ↦ elim (turn.waits (is ∙ ap Some room)) [
+      own : (r : Option Next) → turn.next ≡ r → turn.slot ≡ other → IfSome r (λ next. HasTurn answers known (has_room old.table) turn.now turn.slot (connections old.table) old.asks (connections new.table) new.asks next)
+          → IfNone r ((connections new.table ≡ connections old.table) × (new.asks ≡ old.asks)) → IfNone r (at_slot (connections old.table) turn.slot ≡ None)
+          → IsKept answers known (comes found (Serves turn)) new.table other now
+      own None none equal nothing (stay, still_asks) free = absurd (let clash : ◌≡◌ {A = Option (OpenConnection T)} None (Some now) = sym free ∙ ap (at_slot (connections old.table)) equal ∙ ap (λ l. at_slot l other) (sym stay) ∙ at in cc clash)
+      own (Some next) is equal one nobody empty =
+          let same : one.after ≡ now = cc (one.is, at, equal) in
+          let before = kept turn.slot one.before one.was in
+          let held : (has turn.slot (ready_slots new.table) ≡ true) ⊎ ((has turn.slot (waiting_slots new.table) ≡ true) ⊎ IsQuiet known one.after) = elim (turn-held (has_room old.table) turn.now one.before one.after old.asks new.asks next one.turn) [
+            | inl again ↦ inl (had.turns (is ∙ ap Some again))
+            | inr (inl room) ↦ elim (had.waits (is ∙ ap Some room)) [
               | inl ready ↦ inl ready
               | inr waits ↦ inr (inl waits)
             ]
             | inr (inr quiet) ↦ inr (inr quiet)
           ] in
-          let all : IsKept answers known found new slot had.after = record {
+          let all : IsKept answers known found new.table turn.slot one.after = record {
             first = before.first;
             came = before.came;
-            answered = turn-answered (has_room old) moment before.first had.before had.after asker asks next before.answered had.turn;
+            answered = turn-answered (has_room old.table) turn.now before.first one.before one.after old.asks new.asks next before.answered one.turn;
             held = held;
           } in
-          subst (λ (k : ℕ). IsKept answers known found new k now) equal (subst (λ (c : OpenConnection T). IsKept answers known found new slot c) same all)
+          subst (λ (k : ℕ). IsKept answers known found new.table k now) equal (subst (λ (c : OpenConnection T). IsKept answers known found new.table turn.slot c) same all)
 
-      go : (b : Bool) → (slot == other) ≡ b → IsKept answers known (comes found (Serves slot result moment)) new other now
-      go true e = own result refl (eqb-true slot other e) turn.own
+      go : (b : Bool) → (turn.slot == other) ≡ b → IsKept answers known (comes found (Serves turn)) new.table other now
+      go true e = own turn.next refl (eqb-true turn.slot other e) had.own had.nobody had.empty
       go false e =
-          let apart : other ≡ slot → ⊥ = λ equal. eqb-false slot other e (sym equal) in
-          let ready : has other (ready_slots old) ≡ true → has other (ready_slots new) ≡ true = λ there. rw turn.later (has-joins other turn.rest turn.slots (has-rest other slot turn.rest apart (rw turn.first at there))) in
-          still found (comes found (Serves slot result moment)) old new other now refl ready turn.keeps (kept other now (sym (turn.others other apart) ∙ at))
+          let apart : other ≡ turn.slot → ⊥ = λ equal. eqb-false turn.slot other e (sym equal) in
+          let ready : has other (ready_slots old.table) ≡ true → has other (ready_slots new.table) ≡ true = λ there. rw had.later (has-joins other had.rest had.slots (has-rest other turn.slot had.rest apart (rw had.first at there))) in
+          still found (comes found (Serves turn)) old.table new.table other now refl ready had.keeps (kept other now (sym (had.others other apart) ∙ at))
 
-  runs-keep : HasRespondedWith [] [] [] new_session → (found : ℕ → Option (OpenConnection T)) (old new : ConnectionTable T) (asker asks : A) (steps : List (Step T))
-      → Runs answers known old asker steps new asks → Kept found old → Kept (all_come found steps) new
-  runs-keep starts found old new asker asks [] (same, still_asks) kept = subst (Kept found) (sym same) kept
-  runs-keep starts found old new asker asks (step ∷ steps) (between, other, first, rest) kept =
-      runs-keep starts (comes found step) between new other asks steps rest (step-keeps starts found old between asker other step first kept)
+  runs-keep : HasRespondedWith [] [] [] new_session → (found : ℕ → Option (OpenConnection T)) (old new : WorkerState A T) (steps : List (Step T))
+      → Runs answers known old steps new → Kept found old.table → Kept (all_come found steps) new.table
+  runs-keep starts found old new [] (same, still_asks) kept = subst (λ (t : ConnectionTable T). Kept found t) (sym same) kept
+  runs-keep starts found old new (step ∷ steps) (between, first, rest) kept =
+      runs-keep starts (comes found step) between new steps rest (step-keeps starts found old between step first kept)
 
   pub runs-answer : HasRespondedWith [] [] [] new_session → RunsAnswer answers known
-  runs-answer starts table last asker asks steps free runs =
-      runs-keep starts (λ _. None) table last asker asks steps runs (λ slot now at. absurd (let clash : ◌≡◌ {A = Option (OpenConnection T)} None (Some now) = sym (free slot) ∙ at in cc clash))
+  runs-answer starts first last steps free runs =
+      runs-keep starts (λ _. None) first last steps runs (λ slot now at. absurd (let clash : ◌≡◌ {A = Option (OpenConnection T)} None (Some now) = sym (free slot) ∙ at in cc clash))
 
   joined-serve : (old new : ConnectionTable T) (slot count : ℕ) (P : Type 0) → Goes old new → has slot (ready_slots old) ≡ true → length (before slot (ready_slots old)) < count
       → (has slot (ready_slots new) ≡ true → length (before slot (ready_slots new)) < count → P) → P
@@ -257,41 +259,41 @@ module _ {A T : Type 0} (answers : A → List ℕ → Said → A → Type 0) (kn
       next (goes-ready old new goes slot there) (rw (goes.joins.1, before-joins slot (ready_slots old) goes.joins.0 there) less)
 
   pub runs-serve : RunsServe answers known
-  runs-serve table last asker asks [] runs slot there less = absurd (omega (arith, less))
-  runs-serve table last asker asks (Opens at connection ∷ steps) (between, other, (same, fresh, here, others, ready, goes), rest) slot there less =
-      joined-serve table between slot (length (turns_of steps)) _ goes there less (λ h l. runs-serve between last other asks steps rest slot h l)
-  runs-serve table last asker asks (Wakes at ∷ steps) (between, other, (same, stay, goes), rest) slot there less =
-      joined-serve table between slot (length (turns_of steps)) _ goes there less (λ h l. runs-serve between last other asks steps rest slot h l)
-  runs-serve table last asker asks (Leaves at why ∷ steps) (between, other, (same, reason, gone, others, goes), rest) slot there less =
-      joined-serve table between slot (length (turns_of steps)) _ goes there less (λ h l. runs-serve between last other asks steps rest slot h l)
-  runs-serve table last asker asks (Serves at result now ∷ steps) (between, other, turn, rest) slot there less = go (λ h l. runs-serve between last other asks steps rest slot h l) (at == slot) refl
+  runs-serve first last [] runs slot there less = absurd (omega (arith, less))
+  runs-serve first last (Opens at connection ∷ steps) (between, (same, fresh, here, others, ready, goes), rest) slot there less =
+      joined-serve first.table between.table slot (length (turns_of steps)) _ goes there less (λ h l. runs-serve between last steps rest slot h l)
+  runs-serve first last (Wakes at ∷ steps) (between, (same, stay, goes), rest) slot there less =
+      joined-serve first.table between.table slot (length (turns_of steps)) _ goes there less (λ h l. runs-serve between last steps rest slot h l)
+  runs-serve first last (Leaves at why ∷ steps) (between, (same, reason, gone, others, goes), rest) slot there less =
+      joined-serve first.table between.table slot (length (turns_of steps)) _ goes there less (λ h l. runs-serve between last steps rest slot h l)
+  runs-serve first last (Serves turn ∷ steps) (between, had, rest) slot there less = go (λ h l. runs-serve between last steps rest slot h l) (turn.slot == slot) refl
     where
-      go : (has slot (ready_slots between) ≡ true → length (before slot (ready_slots between)) < length (turns_of steps) → has slot (turns_of steps) ≡ true) → (b : Bool) → (at == slot) ≡ b → has slot (at ∷ turns_of steps) ≡ true
+      go : (has slot (ready_slots between.table) ≡ true → length (before slot (ready_slots between.table)) < length (turns_of steps) → has slot (turns_of steps) ≡ true) → (b : Bool) → (turn.slot == slot) ≡ b → has slot (turn.slot ∷ turns_of steps) ≡ true
       go further true e = rw e refl
       go further false e =
-          let apart : slot ≡ at → ⊥ = λ equal. eqb-false at slot e (sym equal) in
-          let behind : has slot turn.rest ≡ true = has-rest slot at turn.rest apart (rw turn.first at there) in
-          let one : length (before slot (at ∷ turn.rest)) < suc (length (turns_of steps)) = rw turn.first at less in
-          let fewer : length (before slot turn.rest) < length (turns_of steps) = omega (arith, rw e at one) in
-          rw e (further (rw turn.later (has-joins slot turn.rest turn.slots behind)) (rw (turn.later, before-joins slot turn.rest turn.slots behind) fewer))
+          let apart : slot ≡ turn.slot → ⊥ = λ equal. eqb-false turn.slot slot e (sym equal) in
+          let behind : has slot had.rest ≡ true = has-rest slot turn.slot had.rest apart (rw had.first at there) in
+          let one : length (before slot (turn.slot ∷ had.rest)) < suc (length (turns_of steps)) = rw had.first at less in
+          let fewer : length (before slot had.rest) < length (turns_of steps) = omega (arith, rw e at one) in
+          rw e (further (rw had.later (has-joins slot had.rest had.slots behind)) (rw (had.later, before-joins slot had.rest had.slots behind) fewer))
 
   pub turns-stay : TurnsStay answers known
-  turns-stay table last asker asks [] (same, still_asks) slot there = inr (rw same there)
-  turns-stay table last asker asks (Opens at connection ∷ steps) (between, other, (same, fresh, here, others, ready, goes), rest) slot there =
-      turns-stay between last other asks steps rest slot (goes-ready table between goes slot there)
-  turns-stay table last asker asks (Wakes at ∷ steps) (between, other, (same, stay, goes), rest) slot there =
-      turns-stay between last other asks steps rest slot (goes-ready table between goes slot there)
-  turns-stay table last asker asks (Leaves at why ∷ steps) (between, other, (same, reason, gone, others, goes), rest) slot there =
-      turns-stay between last other asks steps rest slot (goes-ready table between goes slot there)
-  turns-stay table last asker asks (Serves at result now ∷ steps) (between, other, turn, rest) slot there = go (λ h. turns-stay between last other asks steps rest slot h) (at == slot) refl
+  turns-stay first last [] (same, still_asks) slot there = inr (rw same there)
+  turns-stay first last (Opens at connection ∷ steps) (between, (same, fresh, here, others, ready, goes), rest) slot there =
+      turns-stay between last steps rest slot (goes-ready first.table between.table goes slot there)
+  turns-stay first last (Wakes at ∷ steps) (between, (same, stay, goes), rest) slot there =
+      turns-stay between last steps rest slot (goes-ready first.table between.table goes slot there)
+  turns-stay first last (Leaves at why ∷ steps) (between, (same, reason, gone, others, goes), rest) slot there =
+      turns-stay between last steps rest slot (goes-ready first.table between.table goes slot there)
+  turns-stay first last (Serves turn ∷ steps) (between, had, rest) slot there = go (λ h. turns-stay between last steps rest slot h) (turn.slot == slot) refl
     where
-      go : (has slot (ready_slots between) ≡ true → (has slot (turns_of steps) ≡ true) ⊎ (has slot (ready_slots last) ≡ true)) → (b : Bool) → (at == slot) ≡ b
-          → (has slot (at ∷ turns_of steps) ≡ true) ⊎ (has slot (ready_slots last) ≡ true)
+      go : (has slot (ready_slots between.table) ≡ true → (has slot (turns_of steps) ≡ true) ⊎ (has slot (ready_slots last.table) ≡ true)) → (b : Bool) → (turn.slot == slot) ≡ b
+          → (has slot (turn.slot ∷ turns_of steps) ≡ true) ⊎ (has slot (ready_slots last.table) ≡ true)
       go further true e = inl (rw e refl)
       go further false e =
-          let apart : slot ≡ at → ⊥ = λ equal. eqb-false at slot e (sym equal) in
-          let behind : has slot turn.rest ≡ true = has-rest slot at turn.rest apart (rw turn.first at there) in
-          rw e (further (rw turn.later (has-joins slot turn.rest turn.slots behind)))
+          let apart : slot ≡ turn.slot → ⊥ = λ equal. eqb-false turn.slot slot e (sym equal) in
+          let behind : has slot had.rest ≡ true = has-rest slot turn.slot had.rest apart (rw had.first at there) in
+          rw e (further (rw had.later (has-joins slot had.rest had.slots behind)))
 
   -- in a turn at most one query was asked
   turn-asks : (may_ask : Bool) (now : ℕ) (old new : OpenConnection T) (asker asks : A) (result : Next) → IsTurn answers known may_ask now old asker new asks result
@@ -303,31 +305,44 @@ module _ {A T : Type 0} (answers : A → List ℕ → Said → A → Type 0) (kn
       go false over true drains = ([], inl (refl, (turn.drained drains).1))
       go false over false drains = let s = turn.served over drains in (s.advances.queries, s.advances.says)
 
-  pub turned-asks : (old : ConnectionTable T) (new : List (Option (OpenConnection T))) (asker asks : A) (slot : ℕ) (result : Option Next) (now : ℕ) → Turned answers known old asker slot result now new asks
-      → (queries : List QueryOutcome) × HasAsked answers asker queries asks
-  turned-asks old new asker asks slot None now (same, still, free) = ([], inl (refl, still))
-  turned-asks old new asker asks slot (Some next) now had = turn-asks (has_room old) now had.before had.after asker asks next had.turn
+  pub turned-asks : (old new : WorkerState A T) (turn : SlotTurn) → IsTurnOf answers known old turn new → (queries : List QueryOutcome) × HasAsked answers old.asks queries new.asks
+  turned-asks old new turn had = go turn.next had.own had.nobody
+    where
+      go : (r : Option Next) → IfSome r (λ next. HasTurn answers known (has_room old.table) turn.now turn.slot (connections old.table) old.asks (connections new.table) new.asks next)
+          → IfNone r ((connections new.table ≡ connections old.table) × (new.asks ≡ old.asks)) → (queries : List QueryOutcome) × HasAsked answers old.asks queries new.asks
+      go None own (same, still) = ([], inl (refl, still))
+      go (Some next) own nobody = turn-asks (has_room old.table) turn.now own.before own.after old.asks new.asks next own.turn
 
   -- nothing was done
-  pub run-none : (table : ConnectionTable T) (asks : A) → HasRun answers known table asks table asks
-  run-none table asks = ([], (refl, refl))
+  pub run-none : (state : WorkerState A T) → HasRun answers known state state
+  run-none state = ([], (refl, refl))
 
-  runs-then : (steps more : List (Step T)) (old between new : ConnectionTable T) (a b c : A) → Runs answers known old a steps between b
-      → Runs answers known between b more new c → Runs answers known old a (steps ++ more) new c
-  runs-then [] more old between new a b c (same, still_asks) last =
-      subst (λ (t : ConnectionTable T). Runs answers known t a more new c) same (subst (λ (k : A). Runs answers known between k more new c) still_asks last)
-  runs-then (step ∷ steps) more old between new a b c (table, asks, first, rest) last = (table, asks, first, runs-then steps more table between new asks b c rest last)
+  pub runs-then : (steps more : List (Step T)) (old between new : WorkerState A T) → Runs answers known old steps between → Runs answers known between more new
+      → Runs answers known old (steps ++ more) new
+  runs-then [] more old between new (same, still_asks) last =
+      subst (λ (t : ConnectionTable T). Runs answers known (record { table = t; asks = old.asks }) more new) same
+      (subst (λ (k : A). Runs answers known (record { table = between.table; asks = k }) more new) still_asks last)
+  runs-then (step ∷ steps) more old between new (next, first, rest) last = (next, first, runs-then steps more next between new rest last)
 
   -- some steps, and then others
-  pub run-then : (old between new : ConnectionTable T) (a b c : A) → HasRun answers known old a between b → HasRun answers known between b new c
-      → HasRun answers known old a new c
-  run-then old between new a b c (steps, first) (more, last) = (steps ++ more, runs-then steps more old between new a b c first last)
+  pub run-then : (old between new : WorkerState A T) → HasRun answers known old between → HasRun answers known between new → HasRun answers known old new
+  run-then old between new (steps, first) (more, last) = (steps ++ more, runs-then steps more old between new first last)
 
-  pub run-step : (step : Step T) (old new : ConnectionTable T) (a b : A) → Steps answers known old a step new b → HasRun answers known old a new b
-  run-step step old new a b is = (step ∷ [], (new, b, is, (refl, refl)))
+  pub run-step : (step : Step T) (old new : WorkerState A T) → Steps answers known old step new → HasRun answers known old new
+  run-step step old new is = (step ∷ [], (new, is, (refl, refl)))
 
-  pub turned-by : (old : ConnectionTable T) (new : List (Option (OpenConnection T))) (asker asks : A) (slot : ℕ) (turned : Option TurnResult) (now : ℕ) → IfNone turned ((new ≡ connections old) × (asks ≡ asker)) → IfNone turned (at_slot (connections old) slot ≡ None)
-      → IfSome turned (λ t. HasTurn answers known (has_room old) now slot (connections old) asker new asks t.next)
-      → Turned answers known old asker slot (option_map (λ t. t.next) turned) now new asks
-  turned-by old new asker asks slot None now nobody empty own = (nobody.0, nobody.1, empty)
-  turned-by old new asker asks slot (Some turned) now nobody empty own = own
+  -- some steps led to the same table and answerer
+  pub run-same : (old between new : WorkerState A T) → HasRun answers known old between → new.table ≡ between.table → new.asks ≡ between.asks → HasRun answers known old new
+  run-same old between new (steps, runs) table asks = (steps ++ [], runs-then steps [] old between new runs (table, asks))
+
+  -- what the result of a turn of the slots says of its own connection
+  pub own-by : (may_ask : Bool) (now slot : ℕ) (old new : List (Option (OpenConnection T))) (asker asks : A) (turned : Option TurnResult)
+      → IfSome turned (λ t. HasTurn answers known may_ask now slot old asker new asks t.next)
+      → IfSome (option_map (λ t. t.next) turned) (λ next. HasTurn answers known may_ask now slot old asker new asks next)
+  own-by may_ask now slot old new asker asks None own = tt
+  own-by may_ask now slot old new asker asks (Some turned) own = own
+
+-- and of a slot with no connection
+pub none-by : (P : Type 0) (turned : Option TurnResult) → IfNone turned P → IfNone (option_map (λ t. t.next) turned) P
+none-by P None is = is
+none-by P (Some turned) is = tt

@@ -1,5 +1,5 @@
 -- Runs of a table of connections: what each connection was sent, and that none is forgotten (docs/WMS.md, "HTTP").
-use Rattle.std.specs.Prelude.{◌≡◌, ◌≢◌, ◌<◌, ◌≤◌, IfSome, length, ◌⊎◌, ℕ, List, [], ◌∷◌, ◌++◌, Option, None, Some, true, false, ◌==◌, if◌then◌else◌}
+use Rattle.std.specs.Prelude.{◌≡◌, ◌≢◌, ◌<◌, ◌≤◌, IfNone, IfSome, length, ◌⊎◌, ℕ, List, [], ◌∷◌, ◌++◌, Option, None, Some, true, false, ◌==◌, if◌then◌else◌}
 use Rattle.std.specs.Io.KnownBytes.{Appends}
 use Rattle.httpedge.specs.Exchange.{Said}
 use Rattle.httpedge.specs.Session.{QueryOutcome, HasRespondedWith, new_session}
@@ -30,59 +30,65 @@ IsReason (Overdue now) table slot = IfSome (at_slot (connections table) slot) (�
 IsReason Unanswered table slot = IfSome (at_slot (connections table) slot) (λ connection. is_unanswered connection.phase ≡ true)
 IsReason (Yields pressure) table slot = IsFirst pressure table slot × IsWanted pressure table
 
--- a step of a table: a connection comes to a slot, the connection at a slot may go on, that at a slot has its turn at a moment, or it leaves the slot
--- for a reason
+-- a turn: the slot that has it, what the connection there waits for after it, if there is one, and the moment
+pub record SlotTurn : Type 0 where
+  pub slot : ℕ
+  pub next : Option Next
+  pub now : ℕ
+
+-- a step of a table: a connection comes to a slot, the connection at a slot may go on, a slot has its turn, or the connection at a slot leaves it for a
+-- reason
 pub data Step (T : Type 0) : Type 0 where
   Opens : ℕ → OpenConnection T → Step T
   Wakes : ℕ → Step T
-  Serves : ℕ → Option Next → ℕ → Step T
+  Serves : SlotTurn → Step T
   Leaves : ℕ → Reason → Step T
+
+-- what a worker has at a moment: the table of its connections, and the answerer of their queries
+pub record WorkerState (A T : Type 0) : Type 0 where
+  pub table : ConnectionTable T
+  pub asks : A
 
 -- a connection of which nothing came and to which nothing is to be sent
 pub record IsNew {T : Type 0} (connection : OpenConnection T) : Type 0 where
   pub session : connection.exchange.session ≡ new_session
   pub buffer : connection.exchange.buffer ≡ []
 
--- the connection at a slot had its turn, or there is none
-abbrev pub Turned : {A T : Type 0} → (A → List ℕ → Said → A → Type 0) → Transport T → ConnectionTable T → A → ℕ → Option Next → ℕ → List (Option (OpenConnection T)) → A → Type 0
-Turned answers known old asker slot None now new asks = (new ≡ connections old) × (asks ≡ asker) × (at_slot (connections old) slot ≡ None)
-Turned answers known old asker slot (Some next) now new asks =
-    HasTurn answers known (has_room old) now slot (connections old) asker new asks next
-
--- the first of the queue had its turn
-pub record IsTurnOf {A T : Type 0} (answers : A → List ℕ → Said → A → Type 0) (known : Transport T) (old : ConnectionTable T) (asker : A) (slot : ℕ) (next : Option Next) (now : ℕ) (new : ConnectionTable T) (asks : A) : Type 0 where
+-- the first of the queue had its turn, if there is a connection at that slot, and nothing else changed
+pub record IsTurnOf {A T : Type 0} (answers : A → List ℕ → Said → A → Type 0) (known : Transport T) (old : WorkerState A T) (turn : SlotTurn) (new : WorkerState A T) : Type 0 where
   pub rest : List ℕ
   pub slots : List ℕ
-  pub first : ready_slots old ≡ slot ∷ rest
-  pub later : ready_slots new ≡ joins rest slots
-  pub own : Turned answers known old asker slot next now (connections new) asks
-  pub others : OthersStay slot (connections old) (connections new)
-  pub turns : next ≡ Some Turn → has slot (ready_slots new) ≡ true
-  pub waits : next ≡ Some Room → (has slot (ready_slots new) ≡ true) ⊎ (has slot (waiting_slots new) ≡ true)
-  pub keeps : KeepsWaiting old new
+  pub first : ready_slots old.table ≡ turn.slot ∷ rest
+  pub later : ready_slots new.table ≡ joins rest slots
+  pub own : IfSome turn.next (λ next. HasTurn answers known (has_room old.table) turn.now turn.slot (connections old.table) old.asks (connections new.table) new.asks next)
+  pub nobody : IfNone turn.next ((connections new.table ≡ connections old.table) × (new.asks ≡ old.asks))
+  pub empty : IfNone turn.next (at_slot (connections old.table) turn.slot ≡ None)
+  pub others : OthersStay turn.slot (connections old.table) (connections new.table)
+  pub turns : turn.next ≡ Some Turn → has turn.slot (ready_slots new.table) ≡ true
+  pub waits : turn.next ≡ Some Room → (has turn.slot (ready_slots new.table) ≡ true) ⊎ (has turn.slot (waiting_slots new.table) ≡ true)
+  pub keeps : KeepsWaiting old.table new.table
 
--- a table made a step
-abbrev pub Steps : {A T : Type 0} → (A → List ℕ → Said → A → Type 0) → Transport T → ConnectionTable T → A → Step T → ConnectionTable T → A → Type 0
-Steps answers known old asker (Opens slot connection) new asks =
-    (asks ≡ asker) × IsNew connection × (at_slot (connections new) slot ≡ Some connection) × OthersStay slot (connections old) (connections new)
-    × (has slot (ready_slots new) ≡ true) × Goes old new
-Steps answers known old asker (Wakes slot) new asks = (asks ≡ asker) × (connections new ≡ connections old) × Goes old new
-Steps answers known old asker (Serves slot next now) new asks = IsTurnOf answers known old asker slot next now new asks
-Steps answers known old asker (Leaves slot why) new asks =
-    (asks ≡ asker) × IsReason why old slot × (at_slot (connections new) slot ≡ None) × OthersStay slot (connections old) (connections new) × Goes old new
+-- a worker made a step
+abbrev pub Steps : {A T : Type 0} → (A → List ℕ → Said → A → Type 0) → Transport T → WorkerState A T → Step T → WorkerState A T → Type 0
+Steps answers known old (Opens slot connection) new =
+    (new.asks ≡ old.asks) × IsNew connection × (at_slot (connections new.table) slot ≡ Some connection) × OthersStay slot (connections old.table) (connections new.table)
+    × (has slot (ready_slots new.table) ≡ true) × Goes old.table new.table
+Steps answers known old (Wakes slot) new = (new.asks ≡ old.asks) × (connections new.table ≡ connections old.table) × Goes old.table new.table
+Steps answers known old (Serves turn) new = IsTurnOf answers known old turn new
+Steps answers known old (Leaves slot why) new =
+    (new.asks ≡ old.asks) × IsReason why old.table slot × (at_slot (connections new.table) slot ≡ None) × OthersStay slot (connections old.table) (connections new.table)
+    × Goes old.table new.table
 
--- a table made these steps, one after the other
-abbrev pub Runs : {A T : Type 0} → (A → List ℕ → Said → A → Type 0) → Transport T → ConnectionTable T → A → List (Step T) → ConnectionTable T → A → Type 0
-Runs answers known old asker [] new asks = (new ≡ old) × (asks ≡ asker)
-Runs {A} {T} answers known old asker (step ∷ steps) new asks =
-    (between : ConnectionTable T) × (other : A) × Steps answers known old asker step between other
-    × Runs answers known between other steps new asks
+-- a worker made these steps, one after the other
+abbrev pub Runs : {A T : Type 0} → (A → List ℕ → Said → A → Type 0) → Transport T → WorkerState A T → List (Step T) → WorkerState A T → Type 0
+Runs answers known old [] new = (new.table ≡ old.table) × (new.asks ≡ old.asks)
+Runs {A} {T} answers known old (step ∷ steps) new = (between : WorkerState A T) × Steps answers known old step between × Runs answers known between steps new
 
 -- the connections that came last to each slot
 abbrev pub comes : {T : Type 0} → (ℕ → Option (OpenConnection T)) → Step T → ℕ → Option (OpenConnection T)
 comes found (Opens slot connection) other = if slot == other then Some connection else found other
 comes found (Wakes slot) other = found other
-comes found (Serves slot next now) other = found other
+comes found (Serves turn) other = found other
 comes found (Leaves slot why) other = found other
 
 abbrev pub all_come : {T : Type 0} → (ℕ → Option (OpenConnection T)) → List (Step T) → ℕ → Option (OpenConnection T)
@@ -127,30 +133,30 @@ pub record IsKept {A T : Type 0} (answers : A → List ℕ → Said → A → Ty
 -- client sent, and isn't forgotten
 abbrev pub RunsAnswer : {A T : Type 0} → (A → List ℕ → Said → A → Type 0) → Transport T → Type 0
 RunsAnswer {A} {T} answers known =
-    (table last : ConnectionTable T) (asker asks : A) (steps : List (Step T)) → ((slot : ℕ) → at_slot (connections table) slot ≡ None)
-    → Runs answers known table asker steps last asks
-    → (slot : ℕ) (now : OpenConnection T) → at_slot (connections last) slot ≡ Some now → IsKept answers known (all_come (λ _. None) steps) last slot now
+    (first last : WorkerState A T) (steps : List (Step T)) → ((slot : ℕ) → at_slot (connections first.table) slot ≡ None)
+    → Runs answers known first steps last
+    → (slot : ℕ) (now : OpenConnection T) → at_slot (connections last.table) slot ≡ Some now → IsKept answers known (all_come (λ _. None) steps) last.table slot now
 
 -- the slots that had a turn, in order
 abbrev pub turns_of : {T : Type 0} → List (Step T) → List ℕ
 turns_of [] = []
 turns_of (Opens slot connection ∷ steps) = turns_of steps
 turns_of (Wakes slot ∷ steps) = turns_of steps
-turns_of (Serves slot next now ∷ steps) = slot ∷ turns_of steps
+turns_of (Serves turn ∷ steps) = turn.slot ∷ turns_of steps
 turns_of (Leaves slot why ∷ steps) = turns_of steps
 
 -- the law of turns in runs: a slot that has a turn has it after the turns of those before it in the queue, and no others, whatever steps are made
 abbrev pub RunsServe : {A T : Type 0} → (A → List ℕ → Said → A → Type 0) → Transport T → Type 0
 RunsServe {A} {T} answers known =
-    (table last : ConnectionTable T) (asker asks : A) (steps : List (Step T)) → Runs answers known table asker steps last asks
-    → (slot : ℕ) → has slot (ready_slots table) ≡ true → length (before slot (ready_slots table)) < length (turns_of steps) → has slot (turns_of steps) ≡ true
+    (first last : WorkerState A T) (steps : List (Step T)) → Runs answers known first steps last
+    → (slot : ℕ) → has slot (ready_slots first.table) ≡ true → length (before slot (ready_slots first.table)) < length (turns_of steps) → has slot (turns_of steps) ≡ true
 
 -- the law of turns that stay: whatever steps are made, a slot that has a turn is served, or has its turn still
 abbrev pub TurnsStay : {A T : Type 0} → (A → List ℕ → Said → A → Type 0) → Transport T → Type 0
 TurnsStay {A} {T} answers known =
-    (table last : ConnectionTable T) (asker asks : A) (steps : List (Step T)) → Runs answers known table asker steps last asks
-    → (slot : ℕ) → has slot (ready_slots table) ≡ true → (has slot (turns_of steps) ≡ true) ⊎ (has slot (ready_slots last) ≡ true)
+    (first last : WorkerState A T) (steps : List (Step T)) → Runs answers known first steps last
+    → (slot : ℕ) → has slot (ready_slots first.table) ≡ true → (has slot (turns_of steps) ≡ true) ⊎ (has slot (ready_slots last.table) ≡ true)
 
--- a table made some steps
-abbrev pub HasRun : {A T : Type 0} → (A → List ℕ → Said → A → Type 0) → Transport T → ConnectionTable T → A → ConnectionTable T → A → Type 0
-HasRun {A} {T} answers known old asker new asks = (steps : List (Step T)) × Runs answers known old asker steps new asks
+-- a worker made some steps
+abbrev pub HasRun : {A T : Type 0} → (A → List ℕ → Said → A → Type 0) → Transport T → WorkerState A T → WorkerState A T → Type 0
+HasRun {A} {T} answers known old new = (steps : List (Step T)) × Runs answers known old steps new

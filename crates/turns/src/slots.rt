@@ -17,21 +17,29 @@ pub struct Slots<T: Drop> {
     pub owed: u128,
 }
 
+/// When a turn is made, and what it may do.
+#[derive(Clone, Copy)]
+pub struct TurnConditions {
+    /// Whether a query may be answered in it.
+    pub may_ask: bool,
+    /// The milliseconds of the worker's clock.
+    pub now: u64,
+}
+
 // A connection has its turn. The result has the bytes that are to be sent to it before and after.
 fn turn_of<T: Transport, A: Asks>(
     connection: &mut OpenConnection<T>,
     asks: &mut A,
-    may_ask: bool,
-    now: u64,
+    conditions: TurnConditions,
 ) -> (TurnResult, u128, u128)
-    ensures turn { IsTurn A.answers ⟦<T as Transport>⟧ may_ask now connection.old asks.old connection.new asks.new result.0.next }
+    ensures turn { IsTurn A.answers ⟦<T as Transport>⟧ conditions.may_ask conditions.now connection.old asks.old connection.new asks.new result.0.next }
     ensures unasked { result.0.asked ≡ false → asks.new ≡ asks.old }
     ensures before { result.1 ≡ owed_by connection.old }
     ensures after { result.2 ≡ owed_by connection.new }
     ensures small { result.2 < 2 ^ 66 }
 {
     let before = connection.owed();
-    let turned = connection.turn(asks, may_ask, now);
+    let turned = connection.turn(asks, conditions.may_ask, conditions.now);
     (turned, before, connection.owed())
 }
 
@@ -55,8 +63,7 @@ impl<T: Transport + Drop> Slots<T> {
         &mut self,
         slot: usize,
         asks: &mut A,
-        may_ask: bool,
-        now: u64,
+        conditions: TurnConditions,
     ) -> Option<TurnResult>
         requires counted { self.old.owed ≡ owed_in_all self.old.items.items }
         requires small { self.old.owed < 2 ^ 67 }
@@ -67,7 +74,7 @@ impl<T: Transport + Drop> Slots<T> {
         ensures others { OthersStay slot self.old.items.items self.new.items.items }
         ensures nobody { IfNone result ((self.new.items.items ≡ self.old.items.items) × (asks.new ≡ asks.old)) }
         ensures empty { IfNone result (at_slot self.old.items.items slot ≡ None) }
-        ensures own { IfSome result (λ turned. HasTurn A.answers ⟦<T as Transport>⟧ may_ask now slot self.old.items.items asks.old self.new.items.items asks.new turned.next) }
+        ensures own { IfSome result (λ turned. HasTurn A.answers ⟦<T as Transport>⟧ conditions.may_ask conditions.now slot self.old.items.items asks.old self.new.items.items asks.new turned.next) }
         ensures unasked { IfSome result (λ turned. turned.asked ≡ false → asks.new ≡ asks.old) }
     {
         if slot >= self.items.len() {
@@ -76,7 +83,7 @@ impl<T: Transport + Drop> Slots<T> {
         let Some(connection) = &mut self.items[slot] else {
             return None;
         };
-        let (turned, before, after) = turn_of(connection, asks, may_ask, now);
+        let (turned, before, after) = turn_of(connection, asks, conditions);
         self.owed = self.owed - before + after;
         Some(turned)
     }

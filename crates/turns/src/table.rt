@@ -5,7 +5,7 @@ ghost use Rattle.turns.specs.Slots.{at_slot};
 use crate::pressure::first_of;
 use crate::queues::{admit, settle};
 use crate::served::{asked_in, next_of};
-use crate::slots::Slots;
+use crate::slots::{Slots, TurnConditions};
 use crate::{Closed, OpenConnection, Pressure, ReadyQueue, Served, Timeouts, Transport};
 use httpedge::Asks;
 use std::alloc::{AllocError, Global};
@@ -135,8 +135,8 @@ impl<T: Transport + Drop> ConnectionTable<T> {
         ensures empty { IfSome result (λ served. IfNone served.next (at_slot (connections self.old) served.slot ≡ None)) }
         ensures own { IfSome result (λ served. IfSome served.next (λ next. HasTurn A.answers ⟦<T as Transport>⟧ (has_room self.old) now served.slot (connections self.old) asks.old (connections self.new) asks.new next)) }
         ensures others { IfSome result (λ served. OthersStay served.slot (connections self.old) (connections self.new)) }
-        ensures run { HasRun A.answers ⟦<T as Transport>⟧ self.old asks.old self.new asks.new }
-        ensures step { IfSome result (λ served. IsTurnOf A.answers ⟦<T as Transport>⟧ self.old asks.old served.slot served.next now self.new asks.new) }
+        ensures run { HasRun A.answers ⟦<T as Transport>⟧ (record { table = self.old; asks = asks.old }) (record { table = self.new; asks = asks.new }) }
+        ensures step { IfSome result (λ served. IsTurnOf A.answers ⟦<T as Transport>⟧ (record { table = self.old; asks = asks.old }) (record { slot = served.slot; next = served.next; now = now }) (record { table = self.new; asks = asks.new })) }
         ensures once { IfSome result (λ _. (queries : List QueryOutcome) × HasAsked A.answers asks.old queries asks.new) }
         ensures unasked { IfSome result (λ served. served.asked ≡ false → asks.new ≡ asks.old) }
         ensures turns { IfSome result (λ served. served.next ≡ Some Turn → has served.slot (ready_slots self.new) ≡ true) }
@@ -146,7 +146,8 @@ impl<T: Transport + Drop> ConnectionTable<T> {
     {
         let slot = self.ready.next()?;
         let may_ask = self.slots.owed < self.room as u128;
-        let turned = self.slots.turn(slot, asks, may_ask, now);
+        let conditions = TurnConditions { may_ask, now };
+        let turned = self.slots.turn(slot, asks, conditions);
         let next = next_of(turned);
         if may_ask && next.is_some() {
             self.last_asked = slot;

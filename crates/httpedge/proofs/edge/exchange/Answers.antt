@@ -1,11 +1,14 @@
 use Rattle.std.proofs.Common.{◌≡◌, ◌∙◌, ◌<◌, ◌++◌, ◌∷◌, [], take, length, refl, sym, ap, subst, append-nil, arith}
 use Rattle.std.specs.List.{concat}
+use Rattle.std.specs.Prelude.{IfSome}
 use Rattle.std.specs.Io.KnownBytes.{Consumes}
 use Rattle.std.proofs.KnownBytes.{Consumes-trans, Consumes-kept}
 use Rattle.streams.proofs.Sending.{nothing-sent, sent-sent, sent-cut}
 use Rattle.httpedge.specs.Exchange.{IsExchange, IsBegun}
 use Rattle.httpedge.specs.Serving.{came_of, requests_left}
+use Rattle.httpedge.specs.Stopped.{HasStopped}
 use Rattle.httpedge.specs.declared.conn.TheConstants.{REQUESTS}
+use Rattle.httpedge.specs.declared.edge.EdgeFault.{EdgeFault}
 use Rattle.httpedge.proofs.Courses.{nothing-open}
 use Rattle.httpedge.proofs.Ending.{opened-leaves, read-stopped, piece-stopped, end-stopped, piece-exchanged, come-ended}
 use Rattle.httpedge.proofs.Serving.{come-first, come-then, leads-all}
@@ -25,19 +28,20 @@ loop-count-init g c = rw (c.requires.new) (record {
   write_flag = refl;
 })
 
-pub returns-in-Err-clause-stopped : goal.returns-in-Err-clause-stopped
-returns-in-Err-clause-stopped g c =
+pub returns-in_default-clause-stopped : goal.returns-in_default-clause-stopped
+returns-in_default-clause-stopped g c =
     let before = c.loop-count.invariant in
-    read-stopped g.A.Asks.answers g.W.Sink.held g.W.Sink.taken (g.R.Source.left c.args.reader.now) (g.R.Source.left c.take.new.self) (concat before.pieces) (came_of c.loop-count.conn.progress) before.text (requests_left c.loop-count.conn)
-    c.args.asks.now c.loop-count.asks c.args.writer.now c.loop-count.writer _ (Consumes-kept _ _ _ _ before.gone.bytes c.in-Err.ensures.bytes) before.come before.sent
-    (omega (arith, before.sent.count, c.taken.ensures, c.taken-before.ensures))
+    subst (λ (fault : EdgeFault). IfSome (g.R.Source.left c.args.reader.now) (λ stream. HasStopped fault g.A.Asks.answers g.W.Sink stream (record { asker = c.args.asks.now; asks = c.loop-count.asks; before = c.args.writer.now; after = c.loop-count.writer }))) (sym c.of_reader.ensures)
+    (read-stopped g.A.Asks.answers g.W.Sink (record { asker = c.args.asks.now; asks = c.loop-count.asks; before = c.args.writer.now; after = c.loop-count.writer }) (g.R.Source.left c.args.reader.now) (g.R.Source.left c.take.new.self) (concat before.pieces) (came_of c.loop-count.conn.progress) before.text
+    (requests_left c.loop-count.conn) _ (Consumes-kept _ _ _ _ before.gone.bytes c.in_default.ensures.bytes) before.come before.sent
+    (omega (arith, before.sent.count, c.taken-before.ensures)))
 
-pub returns-in-Err-clause-kept_up : goal.returns-in-Err-clause-kept_up
-returns-in-Err-clause-kept_up g c =
+pub returns-in_default-clause-kept_up : goal.returns-in_default-clause-kept_up
+returns-in_default-clause-kept_up g c =
     let before = c.loop-count.invariant in
     λ _. (
       concat before.pieces,
-      Consumes-kept _ _ _ _ before.gone.bytes c.in-Err.ensures.bytes,
+      Consumes-kept _ _ _ _ before.gone.bytes c.in_default.ensures.bytes,
       record {
         text = before.text;
         left = requests_left c.loop-count.conn;
@@ -48,19 +52,19 @@ returns-in-Err-clause-kept_up g c =
       },
     )
 
-pub returns-in-Err-answer_end-clause-stopped : goal.returns-in-Err-answer_end-clause-stopped
-returns-in-Err-answer_end-clause-stopped g c =
+pub returns-in-Err-clause-stopped : goal.returns-in-Err-clause-stopped
+returns-in-Err-clause-stopped g c =
     let before = c.loop-count.invariant in
-    let (text, cut, begun) = c.in-Err-answer_end.ensures.cut in
+    let (text, cut, begun) = c.in-Err.ensures.cut in
     let none : take c.in-Ok.count c.take.new.room ≡ [] = rw c.if-count-eq0.true refl in
     let read : concat before.pieces ++ take c.in-Ok.count c.take.new.room ≡ concat before.pieces = ap (λ l. concat before.pieces ++ l) none ∙ append-nil (concat before.pieces) in
     let out = sent-cut _ _ _ _ _ _ _ before.sent cut in
-    end-stopped g.A.Asks.answers g.W.Sink.held g.W.Sink.taken (g.R.Source.left c.args.reader.now) (g.R.Source.left c.take.new.self) (concat before.pieces) (before.text ++ text)
-    c.args.asks.now c.answer_end.new.asks c.args.writer.now c.answer_end.new.writer _
+    subst (λ (fault : EdgeFault). IfSome (g.R.Source.left c.args.reader.now) (λ stream. HasStopped fault g.A.Asks.answers g.W.Sink stream (record { asker = c.args.asks.now; asks = c.answer_end.new.asks; before = c.args.writer.now; after = c.answer_end.new.writer }))) (sym c.of_writer.ensures)
+    (end-stopped g.A.Asks.answers g.W.Sink (record { asker = c.args.asks.now; asks = c.answer_end.new.asks; before = c.args.writer.now; after = c.answer_end.new.writer }) (g.R.Source.left c.args.reader.now) (g.R.Source.left c.take.new.self) (concat before.pieces) (before.text ++ text) _
     (subst (Consumes (g.R.Source.left c.args.reader.now) (g.R.Source.left c.take.new.self)) read (Consumes-trans _ _ _ _ _ before.gone.bytes c.in-Ok.ensures.bytes.0))
     (c.in-Ok.ensures.bytes.1 c.if-count-eq0.true (omega arith))
     (come-ended (IsBegun g.A.Asks.answers) REQUESTS (requests_left c.loop-count.conn) (concat before.pieces) (came_of c.loop-count.conn.progress) before.text text c.args.asks.now c.loop-count.asks c.answer_end.new.asks before.come.begun begun)
-    out (omega (arith, out.1.count, c.taken-in-Err-answer_end.ensures, c.taken-before.ensures))
+    out (omega (arith, out.1.count, c.taken-before.ensures)))
 
 pub loop-count-preserved : goal.loop-count-preserved
 loop-count-preserved g c =
@@ -93,8 +97,8 @@ returns-in-Ok-false-clause-exchanged g c =
     let piece = c.split_at.result.0.now in
     let (text, sent, all) = rw (c.in-Ok-false.field-0-test) at c.in-Ok-false.ensures.serves in
     let read = subst (Consumes (g.R.Source.left c.loop-count.reader) (g.R.Source.left c.take.new.self)) (sym c.split_at.ensures.front) c.in-Ok.ensures.bytes.0 in
-    piece-exchanged g.A.Asks.answers g.W.Sink.held g.W.Sink.taken (g.R.Source.left c.args.reader.now) (g.R.Source.left c.take.new.self) (concat before.pieces ++ piece) (before.text ++ text)
-    c.args.asks.now c.answer_piece.new.asks c.args.writer.now c.answer_piece.new.writer (Consumes-trans _ _ _ _ _ before.gone.bytes read)
+    piece-exchanged g.A.Asks.answers g.W.Sink (record { asker = c.args.asks.now; asks = c.answer_piece.new.asks; before = c.args.writer.now; after = c.answer_piece.new.writer }) (g.R.Source.left c.args.reader.now) (g.R.Source.left c.take.new.self) (concat before.pieces ++ piece) (before.text ++ text)
+    (Consumes-trans _ _ _ _ _ before.gone.bytes read)
     (leads-all (IsExchange g.A.Asks.answers) REQUESTS (requests_left conn) (concat before.pieces) (came_of conn.progress) piece before.text text c.args.asks.now c.loop-count.asks c.answer_piece.new.asks before.come.answered all)
     (sent-sent _ _ _ _ _ _ _ before.sent sent)
 
@@ -106,7 +110,8 @@ returns-in-Err-answer_piece-clause-stopped g c =
     let (text, cut, begun) = c.in-Err-answer_piece.ensures.cut in
     let read = subst (Consumes (g.R.Source.left c.loop-count.reader) (g.R.Source.left c.take.new.self)) (sym c.split_at.ensures.front) c.in-Ok.ensures.bytes.0 in
     let out = sent-cut _ _ _ _ _ _ _ before.sent cut in
-    piece-stopped g.A.Asks.answers g.W.Sink.held g.W.Sink.taken (g.R.Source.left c.args.reader.now) (g.R.Source.left c.take.new.self) (concat before.pieces ++ piece) (before.text ++ text)
-    c.args.asks.now c.answer_piece.new.asks c.args.writer.now c.answer_piece.new.writer _ (Consumes-trans _ _ _ _ _ before.gone.bytes read)
+    subst (λ (fault : EdgeFault). IfSome (g.R.Source.left c.args.reader.now) (λ stream. HasStopped fault g.A.Asks.answers g.W.Sink stream (record { asker = c.args.asks.now; asks = c.answer_piece.new.asks; before = c.args.writer.now; after = c.answer_piece.new.writer }))) (sym c.of_writer-in-Err-answer_piece.ensures)
+    (piece-stopped g.A.Asks.answers g.W.Sink (record { asker = c.args.asks.now; asks = c.answer_piece.new.asks; before = c.args.writer.now; after = c.answer_piece.new.writer }) (g.R.Source.left c.args.reader.now) (g.R.Source.left c.take.new.self) (concat before.pieces ++ piece) (before.text ++ text) _
+    (Consumes-trans _ _ _ _ _ before.gone.bytes read)
     (leads-all (IsBegun g.A.Asks.answers) REQUESTS (requests_left conn) (concat before.pieces) (came_of conn.progress) piece before.text text c.args.asks.now c.loop-count.asks c.answer_piece.new.asks before.come.begun begun)
-    out (omega (arith, out.1.count, c.taken-in-Err-answer_piece.ensures, c.taken-before.ensures))
+    out (omega (arith, out.1.count, c.taken-before.ensures)))

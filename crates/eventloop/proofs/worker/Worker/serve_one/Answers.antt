@@ -1,11 +1,12 @@
 use Rattle.std.proofs.Common.{◌∙◌, sym, subst}
 use Rattle.eventloop.proofs.Working.{turn-turned}
 use Rattle.httpedge.specs.Session.{HasAsked}
+use Rattle.eventloop.specs.Working.{state}
 use Rattle.eventloop.proofs.worker.Worker.serve_one.Goals as goal
 
 pub returns-clause-turn : goal.returns-clause-turn
 returns-clause-turn g c =
-    turn-turned g.A.Asks.answers g.T.Transport c.in_ok-served.served.slot c.args.self.now.now c.in_ok-served.served.next c.args.self.now.table c.serve_next.new.self c.leave.new.self.table c.args.self.now.asks c.serve_next.new.asks c.leave.new.self.asks c.in_ok-served.ensures.step c.leave.ensures.run
+    turn-turned g.A.Asks.answers g.T.Transport (record { slot = c.in_ok-served.served.slot; next = c.in_ok-served.served.next; now = c.args.self.now.now }) (state c.args.self.now) (record { table = c.serve_next.new.self; asks = c.serve_next.new.asks }) (state c.leave.new.self) c.in_ok-served.ensures.step c.leave.ensures.run
 
 pub returns-clause-once : goal.returns-clause-once
 returns-clause-once g c =
