@@ -4,7 +4,7 @@
 Usage: random_maps.py [PROGRAM [MAPS [SEED]]]
 
 PROGRAM is the built program of painting_counts.rt.txt; without it, it is built, which takes some minutes. Each map
-has rings or lines of up to 1,000 vertices, many of them of some blocks of 64 edges: scattered, in short steps, far
+has rings or lines of up to 1,000 vertices, many of them of some blocks of 32 edges: scattered, in short steps, far
 off the view, spikes and equal vertices, on pixel centres, in one row, left of the view and beside its corner. Widths
 are 1 to 32. The script ends with 1 if a picture differs, and leaves its map in the folder where it runs.
 """
@@ -20,7 +20,7 @@ from painting_counts import build
 SIZES = [(40, 40), (61, 23), (24, 60)]
 FILL, LINE = (10, 20, 30), (200, 0, 0)
 # About the ends of blocks, and any.
-COUNTS = [1, 2, 3, 63, 64, 65, 66, 100, 127, 128, 129, 130, 193]
+COUNTS = [1, 2, 3, 31, 32, 33, 34, 50, 63, 64, 65, 66, 97, 100, 129, 193]
 
 
 def within(number):
