@@ -29,5 +29,6 @@ mod text;
 pub use fault::{FontError, FontFault, FontKind};
 pub use file::read;
 pub use text::{
-    MAX_CHARACTERS, advance_of, corner_of, extent, glyph_of, ink, inks_at, is_short, split_char,
+    GlyphCorner, MAX_CHARACTERS, advance_of, corner_of, extent, glyph_of, ink, inks_at, is_short,
+    split_char,
 };

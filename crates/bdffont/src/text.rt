@@ -130,18 +130,30 @@ fn bottom_of(top: i64, font: BitmapBox, bounds: BitmapBox) -> i64
     last_row(top, font.height) + i64::from(font.yoff) - i64::from(bounds.yoff)
 }
 
-/// The leftmost column and the first row of a glyph's box, in a text with its upper left pixel at a pixel
-/// and this box of its font, where the pen has advanced so far.
-pub fn corner_of(font: BitmapBox, at: Pixel, pen: u32, bounds: BitmapBox) -> (i64, i64)
+/// The corner of a glyph's box in a picture: its leftmost column and its first row, in the picture or off it.
+#[derive(Clone, Copy)]
+pub struct GlyphCorner {
+    /// The leftmost column.
+    pub left: i64,
+    /// The first row.
+    pub top: i64,
+}
+
+/// The corner of a glyph's box, in a text with its upper left pixel at a pixel and this box of its font, where
+/// the pen has advanced so far.
+pub fn corner_of(font: BitmapBox, at: Pixel, pen: u32, bounds: BitmapBox) -> GlyphCorner
     requires { pen ≤ 2 ^ 16 }
-    ensures left { result.0 ≡ left_of at.i pen bounds }
-    ensures top { result.1 ≡ first_row (bottom_of at.j font bounds) bounds.height }
-    ensures columns { IsBelow (2 ^ 47) result.0 }
-    ensures rows { IsBelow (2 ^ 47) result.1 }
+    ensures left { result.left ≡ left_of at.i pen bounds }
+    ensures top { result.top ≡ first_row (bottom_of at.j font bounds) bounds.height }
+    ensures columns { IsBelow (2 ^ 47) result.left }
+    ensures rows { IsBelow (2 ^ 47) result.top }
 {
     let left = left_of(at.i(), pen, bounds);
     let bottom = bottom_of(at.j(), font, bounds);
-    (left, first_row(bottom, bounds.height))
+    GlyphCorner {
+        left,
+        top: first_row(bottom, bounds.height),
+    }
 }
 
 // How far a column or a row is past another one, if it is not before it.
@@ -167,15 +179,14 @@ fn inks(glyph: &Glyph, column: u64, row: u64) -> bool
     glyph.rows.as_slice().get(index).copied().unwrap_or(false)
 }
 
-/// Whether a glyph has ink in column `i` and row `j` of the picture, where the corner of its box is its leftmost
-/// column and its first row.
-pub fn inks_at(glyph: &Glyph, corner: (i64, i64), i: i64, j: i64) -> bool
-    ensures { result ≡ inks_at glyph.now (past corner.0 i) (past corner.1 j) }
+/// Whether a glyph has ink in column `i` and row `j` of the picture, where its box has this corner.
+pub fn inks_at(glyph: &Glyph, corner: GlyphCorner, i: i64, j: i64) -> bool
+    ensures { result ≡ inks_at glyph.now (past corner.left i) (past corner.top j) }
 {
-    let Some(column) = past(corner.0, i) else {
+    let Some(column) = past(corner.left, i) else {
         return false;
     };
-    let Some(row) = past(corner.1, j) else {
+    let Some(row) = past(corner.top, j) else {
         return false;
     };
     inks(glyph, column, row)

@@ -4,7 +4,7 @@ ghost use Rattle.viewport.specs.View.{window};
 ghost use Rattle.viewport.specs.declared.view.TheConstants.{MAX_MARGIN};
 ghost use Rattle.canvas.specs.Painted.{HasRowsFilled, IsFilled};
 
-use crate::colouring::{ColouredSpans, Colouring, fill_box, fill_rows};
+use crate::colouring::{ColouredSpans, Colouring, PixelBox, fill_box, fill_rows};
 use crate::latitudes::RowLatitudes;
 use crate::margin_window::MarginWindow;
 use geom::{PictureSide, WorldBox};
@@ -158,7 +158,12 @@ impl Canvas {
         ensures { IsFilled (λ i j. has_column columns i && has_column rows j) (λ i j. Some colour) self.old self.new }
     {
         let width = self.width.pixels();
-        fill_box(&mut self.pixels, width, columns, rows, colour);
+        let area = PixelBox {
+            from: columns.from,
+            count: columns.to - columns.from,
+            rows,
+        };
+        fill_box(&mut self.pixels, width, area, colour);
     }
 
     /// Gives the colour to the pixels of a column in some rows.
@@ -168,7 +173,12 @@ impl Canvas {
         ensures { IsFilled (λ i j. has_column (record { from = column; to = column + 1 }) i && has_column rows j) (λ i j. Some colour) self.old self.new }
     {
         let width = self.width.pixels();
-        fill_rows(&mut self.pixels, width, column, 1, rows, colour);
+        let area = PixelBox {
+            from: column,
+            count: 1,
+            rows,
+        };
+        fill_rows(&mut self.pixels, width, area, colour);
     }
 
     /// The picture as it has been painted.

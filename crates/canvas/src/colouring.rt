@@ -54,44 +54,53 @@ fn fill_span(row: &mut [PixelColour], span: Span, colour: Rgb)
     row[usize::from(span.from)..usize::from(span.to)].fill(PixelColour::new(Some(colour)));
 }
 
-/// Gives the colour to the pixels in some columns and some rows of a picture that is so many pixels wide. Where the
-/// number of columns is known at compile time, a row takes a store or two.
-pub fn fill_box(pixels: &mut [PixelColour], width: u16, columns: Span, rows: Span, colour: Rgb)
+/// A box of pixels of a picture: columns from one on, in some rows.
+#[derive(Clone, Copy)]
+pub struct PixelBox {
+    /// The first column.
+    pub from: u16,
+    /// How many columns.
+    pub count: u16,
+    /// The rows.
+    pub rows: Span,
+}
+
+/// Gives the colour to the pixels of a box, in a picture that is so many pixels wide. Where the number of columns is
+/// known at compile time, a row takes a store or two.
+pub fn fill_box(pixels: &mut [PixelColour], width: u16, area: PixelBox, colour: Rgb)
     requires some { 0 < width }
-    requires order { columns.from ≤ columns.to }
-    requires columns { columns.to ≤ width }
-    requires rows { rows.to * width ≤ length pixels.old }
+    requires columns { area.from + area.count ≤ width }
+    requires rows { area.rows.to * width ≤ length pixels.old }
     ensures area { length pixels.new ≡ length pixels.old }
-    ensures filled { AreFilled (λ i j. has_column columns i && has_column rows j) (λ i j. Some colour) width pixels.old pixels.new }
+    ensures filled { AreFilled (λ i j. has_column (record { from = area.from; to = area.from + area.count }) i && has_column area.rows j)
+        (λ i j. Some colour) width pixels.old pixels.new }
 {
-    let from = columns.from;
-    match columns.to - from {
-        1 => fill_rows(pixels, width, from, 1, rows, colour),
-        3 => fill_rows(pixels, width, from, 3, rows, colour),
-        5 => fill_rows(pixels, width, from, 5, rows, colour),
-        count => fill_rows(pixels, width, from, count, rows, colour),
+    match area.count {
+        1 => fill_rows(pixels, width, PixelBox { count: 1, ..area }, colour),
+        3 => fill_rows(pixels, width, PixelBox { count: 3, ..area }, colour),
+        5 => fill_rows(pixels, width, PixelBox { count: 5, ..area }, colour),
+        _ => fill_rows(pixels, width, area, colour),
     }
 }
 
-/// Gives the colour to the pixels of so many columns from one on, in some rows of a picture that is so many pixels wide.
-pub fn fill_rows(
-    pixels: &mut [PixelColour],
-    width: u16,
-    from: u16,
-    count: u16,
-    rows: Span,
-    colour: Rgb,
-)
+/// Gives the colour to the pixels of a box, in a picture that is so many pixels wide, by a loop over its rows.
+pub fn fill_rows(pixels: &mut [PixelColour], width: u16, area: PixelBox, colour: Rgb)
     requires some { 0 < width }
-    requires columns { from + count ≤ width }
-    requires rows { rows.to * width ≤ length pixels.old }
+    requires columns { area.from + area.count ≤ width }
+    requires rows { area.rows.to * width ≤ length pixels.old }
     ensures area { length pixels.new ≡ length pixels.old }
-    ensures filled { AreFilled (λ i j. has_column (record { from = from; to = from + count }) i && has_column rows j) (λ i j. Some colour) width pixels.old pixels.new }
+    ensures filled { AreFilled (λ i j. has_column (record { from = area.from; to = area.from + area.count }) i && has_column area.rows j)
+        (λ i j. Some colour) width pixels.old pixels.new }
 {
     let stride = usize::from(width);
-    for row in rows.from..rows.to {
+    for row in area.rows.from..area.rows.to {
         let start = usize::from(row) * stride;
-        fill_run(&mut pixels[start..start + stride], from, count, colour);
+        fill_run(
+            &mut pixels[start..start + stride],
+            area.from,
+            area.count,
+            colour,
+        );
     }
 }
 

@@ -20,7 +20,9 @@ pub fn add_layer<'a, N: Near>(
 ) -> Result<(), AllocError>
     requires near { N.map_of near.now ≡ scene.now.map }
     requires index { index < length scene.now.map.layers }
-    ensures { OnOk result (labels.new ≡ labels.old ++ flat_map (classified_candidates scene.now.view scene.now.map.font) (classified_chosen scene.now.scale scene.now.map index)) }
+    ensures { OnOk result
+        (labels.new ≡ labels.old ++ flat_map (classified_candidates scene.now.view scene.now.map.font)
+        (classified_chosen scene.now.scale scene.now.map index)) }
 {
     let layer = scene.layer(index);
     if !scene.shows(layer) {
@@ -53,7 +55,9 @@ fn add_features<'a>(
     found: &[u32],
 ) -> Result<(), AllocError>
     requires { All (λ k. k < length layer.now.features) found.now }
-    ensures { OnOk result (labels.new ≡ labels.old ++ flat_map (classified_candidates scene.now.view scene.now.map.font) (flat_map (given_at (classified_feature scene.now.scale layer.now) layer.now.features) found.now)) }
+    ensures { OnOk result
+        (labels.new ≡ labels.old ++ flat_map (classified_candidates scene.now.view scene.now.map.font)
+        (flat_map (given_at (classified_feature scene.now.scale layer.now) layer.now.features) found.now)) }
 {
     let features = layer.features.as_slice();
     for index in found {
@@ -69,7 +73,9 @@ fn add_feature<'a>(
     layer: &'a LayerFields,
     feature: &'a FeatureFields,
 ) -> Result<(), AllocError>
-    ensures { OnOk result (labels.new ≡ labels.old ++ flat_map (classified_candidates scene.now.view scene.now.map.font) (classified_feature scene.now.scale layer.now feature.now)) }
+    ensures { OnOk result
+        (labels.new ≡ labels.old ++ flat_map (classified_candidates scene.now.view scene.now.map.font)
+        (classified_feature scene.now.scale layer.now feature.now)) }
 {
     match scene.class_of(layer, feature) {
         Some(class) => add_candidate(

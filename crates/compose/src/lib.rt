@@ -25,4 +25,4 @@ mod margin;
 mod paint;
 mod polygon;
 
-pub use paint::{draw, picture};
+pub use paint::{PictureQuery, draw, picture};

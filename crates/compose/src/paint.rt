@@ -20,7 +20,16 @@ use scene::Scene;
 use std::alloc::{AllocError, Global};
 use viewport::View;
 
-/// The picture of the chosen layers of a scene. `chosen` has their indices in the map. They are painted
+/// A query of a picture.
+#[derive(Clone, Copy)]
+pub struct PictureQuery<'a> {
+    /// The indices of the chosen layers in the map, in the order in which they are painted.
+    pub chosen: &'a [usize],
+    /// The colour where nothing is painted, which may be none.
+    pub background: Option<Rgb>,
+}
+
+/// The picture of the chosen layers of a scene. They are painted
 /// in that order, a layer that is chosen twice also twice, and whether they are switched on or not. Layers
 /// and classes that aren't visible at the scale are left out. Where nothing is painted the picture has the
 /// background, which may be none. The labels of the classified features are placed and painted after
@@ -41,17 +50,20 @@ pub fn draw<N: Near>(
     alloc: Global,
     scene: &Scene<'_>,
     near: &N,
-    chosen: &[usize],
-    background: Option<Rgb>,
+    asked: &PictureQuery<'_>,
 ) -> Result<Picture, AllocError>
     requires near { N.map_of near.now ≡ scene.now.map }
-    requires layers { All (λ index. index < length scene.now.map.layers) chosen.now }
-    ensures { IfOk result (IsPictureOf scene.now.map scene.now.view scene.now.scale chosen.now background) }
+    requires layers { All (λ index. index < length scene.now.map.layers) asked.now.chosen.now }
+    ensures { IfOk result (IsPictureOf scene.now.map scene.now.view scene.now.scale asked.now.chosen.now asked.now.background) }
 {
-    let mut drawing = Drawing::new(alloc, scene, background)?;
-    let mut rest = chosen;
+    let mut drawing = Drawing::new(alloc, scene, asked.background)?;
+    let mut rest = asked.chosen;
     while let Some((index, after)) = rest.split_first() {
-        draw_mention(&mut drawing, scene, near, *index, after)?;
+        let mention = Mention {
+            index: *index,
+            after,
+        };
+        draw_mention(&mut drawing, scene, near, &mention)?;
         rest = after;
     }
     Ok(drawing.into_labelled(scene)?.into_picture())
@@ -71,35 +83,35 @@ pub fn picture<N: Near>(
     requires layers { All (λ index. index < length map.now.layers) chosen.now }
     ensures { IfOk result (IsPictureOf map.now view scale chosen.now background) }
 {
-    draw(
-        alloc,
-        &Scene::new(map, view, scale),
-        near,
-        chosen,
-        background,
-    )
+    let asked = PictureQuery { chosen, background };
+    draw(alloc, &Scene::new(map, view, scale), near, &asked)
 }
 
-// Draws the layer at an index that stands before others in a list. If it stands among these again, only its
-// candidates are added.
+// The mention of a layer among those that are chosen: its index in the map, and the layers that are chosen after it.
+#[derive(Clone, Copy)]
+struct Mention<'a> {
+    index: usize,
+    after: &'a [usize],
+}
+
+// Draws the layer of a mention. If the layer is chosen again after it, only its candidates are added.
 fn draw_mention<'a, N: Near>(
     drawing: &mut Drawing<'a>,
     scene: &Scene<'a>,
     near: &N,
-    index: usize,
-    after: &[usize],
+    mention: &Mention<'_>,
 ) -> Result<(), AllocError>
     requires near { N.map_of near.now ≡ scene.now.map }
-    requires index { index < length scene.now.map.layers }
+    requires index { mention.now.index < length scene.now.map.layers }
     requires width { drawing.old.canvas.width ≡ scene.now.view.width }
     requires height { drawing.old.canvas.height ≡ scene.now.view.height }
     requires area { length drawing.old.canvas.pixels ≡ drawing.old.canvas.width * drawing.old.canvas.height }
-    ensures { OnOk result (IsMentioned scene.now index after.now drawing.old drawing.new) }
+    ensures { OnOk result (IsMentioned scene.now mention.now.index mention.now.after.now drawing.old drawing.new) }
 {
-    if after.contains(&index) {
-        return add_layer(&mut drawing.labels, scene, near, index);
+    if mention.after.contains(&mention.index) {
+        return add_layer(&mut drawing.labels, scene, near, mention.index);
     }
-    draw_layer(drawing, scene, near, index)
+    draw_layer(drawing, scene, near, mention.index)
 }
 
 // Draws the layer at an index, where it shows at the scale.
@@ -135,7 +147,8 @@ fn draw_features<'a>(
     requires indices { All (λ k. k < length layer.now.features) found.now }
     requires width { drawing.old.canvas.width ≡ scene.now.view.width }
     requires height { drawing.old.canvas.height ≡ scene.now.view.height }
-    ensures { OnOk result (IsDrawn scene.now drawing.old drawing.new (flat_map (given_at (classified_feature scene.now.scale layer.now) layer.now.features) found.now)) }
+    ensures { OnOk result
+        (IsDrawn scene.now drawing.old drawing.new (flat_map (given_at (classified_feature scene.now.scale layer.now) layer.now.features) found.now)) }
 {
     let classes = LayerClasses::new(layer);
     let features = layer.features.as_slice();

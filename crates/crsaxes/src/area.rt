@@ -42,20 +42,21 @@ fn four_parts(text: &str) -> Option<(&str, &str, &str, &str)>
     }
 }
 
-// The box of four coordinates in the axis order of a system.
-fn box_of(
-    crs: Crs,
+// A corner of a box: two coordinates, in the axis order of a system.
+#[derive(Clone, Copy)]
+struct Corner {
     first: Coordinate,
     second: Coordinate,
-    third: Coordinate,
-    fourth: Coordinate,
-) -> Result<WorldBox, AxisFault>
-    ensures value { result ≡ box_of crs (Some first) (Some second) (Some third) (Some fourth) }
+}
+
+// The box between two corners, the lower one with the least values of both axes.
+fn box_of(crs: Crs, lower: Corner, upper: Corner) -> Result<WorldBox, AxisFault>
+    ensures value { result ≡ box_of crs (Some lower.first) (Some lower.second) (Some upper.first) (Some upper.second) }
     ensures extent { IfOk result IsExtent }
 {
     let (minx, miny, maxx, maxy) = match crs {
-        Crs::Crs84 | Crs::Epsg3857 => (first, second, third, fourth),
-        Crs::Epsg4326 => (second, first, fourth, third),
+        Crs::Crs84 | Crs::Epsg3857 => (lower.first, lower.second, upper.first, upper.second),
+        Crs::Epsg4326 => (lower.second, lower.first, upper.second, upper.first),
     };
     if minx < maxx && miny < maxy {
         Ok(WorldBox::new(minx.get(), miny.get(), maxx.get(), maxy.get()))
@@ -84,7 +85,12 @@ impl Crs {
             axis_of(self, fourth),
         ) {
             (Some(first), Some(second), Some(third), Some(fourth)) => {
-                box_of(self, first, second, third, fourth)
+                let lower = Corner { first, second };
+                let upper = Corner {
+                    first: third,
+                    second: fourth,
+                };
+                box_of(self, lower, upper)
             }
             _ => Err(AxisFault::NotANumber),
         }

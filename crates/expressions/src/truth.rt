@@ -34,31 +34,11 @@ pub fn item_value<'a>(names: &[Text], values: &'a Values, name: &str) -> &'a str
     values.get(index).unwrap_or("")
 }
 
-// The text of an operand.
-fn text_of<'a>(names: &[Text], values: &'a Values, operand: &'a Operand) -> &'a str
-    ensures { result.now ≡ text_of names.now values.now operand.now }
-{
-    match operand {
-        Operand::Number(_, text) | Operand::Text(text) => text.as_str(),
-        Operand::Item(name) | Operand::ItemText(name) => item_value(names, values, name.as_str()),
-    }
-}
-
 // Whether an operand requires numbers.
 fn asks_numbers(operand: &Operand) -> bool
     ensures { result ≡ asks_numbers operand.now }
 {
     matches!(operand, Operand::Number(..) | Operand::Item(_))
-}
-
-// The number of an operand, if it has one.
-fn number_of(names: &[Text], values: &Values, operand: &Operand) -> Option<Micro>
-    ensures { result ≡ number_of names.now values.now operand.now }
-{
-    match operand {
-        Operand::Number(number, _) => Some(*number),
-        _ => Micro::read(text_of(names, values, operand).as_bytes(), NUMBER_LIMIT).ok(),
-    }
 }
 
 // Whether a comparison is true of operands in this order.
@@ -104,25 +84,50 @@ fn is_true_of_texts(comparison: Comparison, left: &str, right: &str) -> bool
     }
 }
 
-// Whether a comparison is true of a feature.
-fn is_true(
-    names: &[Text],
-    values: &Values,
-    comparison: Comparison,
-    left: &Operand,
-    right: &Operand,
-) -> bool
-    ensures { result ≡ is_true names.now values.now comparison left.now right.now }
-{
-    let is_of_texts = matches!(comparison, Comparison::EqualIgnoringCase | Comparison::In);
-    if !is_of_texts && (asks_numbers(left) || asks_numbers(right)) {
-        let left = number_of(names, values, left);
-        let right = number_of(names, values, right);
-        return is_true_of_numbers(comparison, left, right);
+// The items of a feature.
+#[derive(Drop)]
+struct FeatureItems<'a> {
+    names: &'a [Text],
+    values: &'a Values,
+}
+
+impl<'a> FeatureItems<'a> {
+    // The text of an operand.
+    fn text_of(&self, operand: &'a Operand) -> &'a str
+        ensures { result.now ≡ text_of self.now.names.now self.now.values.now operand.now }
+    {
+        match operand {
+            Operand::Number(_, text) | Operand::Text(text) => text.as_str(),
+            Operand::Item(name) | Operand::ItemText(name) => {
+                item_value(self.names, self.values, name.as_str())
+            }
+        }
     }
-    let left = text_of(names, values, left);
-    let right = text_of(names, values, right);
-    is_true_of_texts(comparison, left, right)
+
+    // The number of an operand, if it has one.
+    fn number_of(&self, operand: &'a Operand) -> Option<Micro>
+        ensures { result ≡ number_of self.now.names.now self.now.values.now operand.now }
+    {
+        match operand {
+            Operand::Number(number, _) => Some(*number),
+            _ => Micro::read(self.text_of(operand).as_bytes(), NUMBER_LIMIT).ok(),
+        }
+    }
+
+    // Whether a comparison of two operands is true.
+    fn is_true(&self, comparison: Comparison, left: &'a Operand, right: &'a Operand) -> bool
+        ensures { result ≡ is_true self.now.names.now self.now.values.now comparison left.now right.now }
+    {
+        let is_of_texts = matches!(comparison, Comparison::EqualIgnoringCase | Comparison::In);
+        if !is_of_texts && (asks_numbers(left) || asks_numbers(right)) {
+            let left = self.number_of(left);
+            let right = self.number_of(right);
+            return is_true_of_numbers(comparison, left, right);
+        }
+        let left = self.text_of(left);
+        let right = self.text_of(right);
+        is_true_of_texts(comparison, left, right)
+    }
 }
 
 // Whether some part is true of a feature.
@@ -160,7 +165,10 @@ fn is_expr_true(names: &[Text], values: &Values, expr: &Expr) -> bool
         Expr::Or(parts) => is_any_true(names, values, parts.as_slice()),
         Expr::And(parts) => are_all_true(names, values, parts.as_slice()),
         Expr::Not(part) => !is_expr_true(names, values, part.get()),
-        Expr::Compare(comparison, left, right) => is_true(names, values, *comparison, left, right),
+        Expr::Compare(comparison, left, right) => {
+            let items = FeatureItems { names, values };
+            items.is_true(*comparison, left, right)
+        }
     }
 }
 

@@ -17,13 +17,16 @@ use std::alloc::{AllocError, Global};
 use strokes::Line;
 use viewport::{Projection, View};
 
-/// A query of the layers of a picture: a pixel, and the most hits of a layer.
+/// A query of a layer of a picture: the layer, a pixel, and the most hits.
 #[derive(Clone, Copy)]
-pub struct PixelQuery {
+pub struct LayerQuery {
+    /// The index of the layer in the map.
+    pub layer: usize,
     /// The column of the pixel, counted from 0.
     pub column: u16,
     /// The row of the pixel, counted from 0.
     pub row: u16,
+    /// The most hits.
     pub count: u32,
 }
 
@@ -88,19 +91,26 @@ fn line_near(
     nearby.meets_cover(alloc, &line, scene.projection().width())
 }
 
+// A scene, and the pixels of its picture that are near the queried one.
+#[derive(Clone, Copy)]
+struct QueriedScene<'a, 'm> {
+    scene: &'a Scene<'m>,
+    nearby: Nearby,
+}
+
 // Whether the plain cover of a feature has one of the near pixels.
 fn covers_near(
     alloc: Global,
-    scene: &Scene<'_>,
+    queried: &QueriedScene<'_, '_>,
     kind: Geometry,
     parts: &[Part],
-    nearby: Nearby,
 ) -> Result<bool, AllocError>
-    requires some { nearby.left < nearby.right }
-    requires width { nearby.right ≤ scene.now.view.width }
-    requires height { nearby.bottom ≤ MAX_PICTURE_SIDE }
-    ensures { IfOk result (λ hit. IsTrue hit ↔ SomeNear nearby (covers_plainly scene.now.view kind parts.now)) }
+    requires some { queried.now.nearby.left < queried.now.nearby.right }
+    requires width { queried.now.nearby.right ≤ queried.now.scene.now.view.width }
+    requires height { queried.now.nearby.bottom ≤ MAX_PICTURE_SIDE }
+    ensures { IfOk result (λ hit. IsTrue hit ↔ SomeNear queried.now.nearby (covers_plainly queried.now.scene.now.view kind parts.now)) }
 {
+    let QueriedScene { scene, nearby } = *queried;
     match kind {
         Geometry::Polygon => polygon_near(alloc, scene, parts, nearby),
         Geometry::Line => line_near(alloc, scene, parts, nearby),
@@ -112,16 +122,16 @@ fn covers_near(
 // and no cover.
 fn is_classed_near(
     alloc: Global,
-    scene: &Scene<'_>,
+    queried: &QueriedScene<'_, '_>,
     layer: &LayerFields,
     feature: &FeatureFields,
-    nearby: Nearby,
 ) -> Result<bool, AllocError>
-    requires some { nearby.left < nearby.right }
-    requires width { nearby.right ≤ scene.now.view.width }
-    requires height { nearby.bottom ≤ MAX_PICTURE_SIDE }
-    ensures { IfOk result (λ hit. IsTrue hit ↔ IsClassedNear scene.now layer.now nearby feature.now) }
+    requires some { queried.now.nearby.left < queried.now.nearby.right }
+    requires width { queried.now.nearby.right ≤ queried.now.scene.now.view.width }
+    requires height { queried.now.nearby.bottom ≤ MAX_PICTURE_SIDE }
+    ensures { IfOk result (λ hit. IsTrue hit ↔ IsClassedNear queried.now.scene.now layer.now queried.now.nearby feature.now) }
 {
+    let QueriedScene { scene, nearby } = *queried;
     let parts = feature.parts.as_slice();
     if is_far(scene.projection(), parts, nearby) {
         return Ok(false);
@@ -129,27 +139,27 @@ fn is_classed_near(
     if scene.class_of(layer, feature).is_none() {
         return Ok(false);
     }
-    covers_near(alloc, scene, layer.kind, parts, nearby)
+    covers_near(alloc, queried, layer.kind, parts)
 }
 
 // The first so many of the candidates that are hit.
 fn first_hits(
-    alloc: Global,
     scene: &Scene<'_>,
     layer: &LayerFields,
-    found: &[u32],
-    asked: PixelQuery,
+    found: &Vec<u32>,
+    asked: LayerQuery,
 ) -> Result<Items<u32>, AllocError>
     requires shows { is_visible_layer scene.now.scale layer.now ≡ true }
-    requires indices { All (λ k. k < length layer.now.features) found.now }
-    requires rising { IsStrictlyIncreasing found.now }
+    requires indices { All (λ k. k < length layer.now.features) found.now.items }
+    requires rising { IsStrictlyIncreasing found.now.items }
     requires column { asked.column < scene.now.view.width }
     requires row { asked.row < scene.now.view.height }
-    ensures { IfOk result (AreFirstAmong (IsHitAt scene.now layer.now asked.column asked.row) asked.count found.now) }
+    ensures { IfOk result (AreFirstAmong (IsHitAt scene.now layer.now asked.column asked.row) asked.count found.now.items) }
 {
+    let alloc = *found.allocator();
     let projection = scene.projection();
-    let sides = (projection.width(), projection.height());
-    let nearby = Nearby::of(sides, asked.column, asked.row, layer.tolerance);
+    let nearby = Nearby::of(projection, asked.column, asked.row, layer.tolerance);
+    let queried = QueriedScene { scene, nearby };
     let features = layer.features.as_slice();
     let mut hits = Vec::new(alloc);
     for index in found {
@@ -157,7 +167,7 @@ fn first_hits(
             return Ok(Items::of(hits));
         }
         let feature = features[*index as usize].get();
-        if is_classed_near(alloc, scene, layer, feature, nearby)? {
+        if is_classed_near(alloc, &queried, layer, feature)? {
             hits.push(*index)?;
         }
     }
@@ -177,22 +187,21 @@ pub fn hits_in<N: Near>(
     alloc: Global,
     scene: &Scene<'_>,
     near: &N,
-    layer: usize,
-    asked: PixelQuery,
+    asked: LayerQuery,
 ) -> Result<Items<u32>, AllocError>
     requires near { N.map_of near.now ≡ scene.now.map }
-    requires layer { layer < length scene.now.map.layers }
+    requires layer { asked.layer < length scene.now.map.layers }
     requires column { asked.column < scene.now.view.width }
     requires row { asked.row < scene.now.view.height }
-    ensures { IfOk result (AreHitsOf scene.now layer asked.column asked.row asked.count) }
+    ensures { IfOk result (AreHitsOf scene.now asked.layer asked.column asked.row asked.count) }
 {
-    let fields = scene.layer(layer);
+    let fields = scene.layer(asked.layer);
     if !scene.shows(fields) {
         return Ok(Items::new(alloc));
     }
     let margin = u16::from(fields.tolerance) + 1;
-    let found = near.candidates(layer, scene.window(margin))?;
-    first_hits(alloc, scene, fields, &found, asked)
+    let found = near.candidates(asked.layer, scene.window(margin))?;
+    first_hits(scene, fields, &found, asked)
 }
 
 /// The hits that `hits_in` gives in the scene of a map in a view, at a scale.
@@ -202,14 +211,13 @@ pub fn hits<N: Near>(
     near: &N,
     view: View,
     scale: Scale,
-    layer: usize,
-    asked: PixelQuery,
+    asked: LayerQuery,
 ) -> Result<Items<u32>, AllocError>
     requires near { N.map_of near.now ≡ map.now }
-    requires layer { layer < length map.now.layers }
+    requires layer { asked.layer < length map.now.layers }
     requires column { asked.column < view.width }
     requires row { asked.row < view.height }
-    ensures { IfOk result (AreHitsOf (record { map = map.now; view = view; scale = scale }) layer asked.column asked.row asked.count) }
+    ensures { IfOk result (AreHitsOf (record { map = map.now; view = view; scale = scale }) asked.layer asked.column asked.row asked.count) }
 {
-    hits_in(alloc, &Scene::new(map, view, scale), near, layer, asked)
+    hits_in(alloc, &Scene::new(map, view, scale), near, asked)
 }

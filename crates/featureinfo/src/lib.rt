@@ -17,5 +17,5 @@ mod reach;
 mod side;
 mod text_lines;
 
-pub use layer_hits::{LayerHits, PixelQuery, hits, hits_in};
+pub use layer_hits::{LayerHits, LayerQuery, hits, hits_in};
 pub use text_lines::text;

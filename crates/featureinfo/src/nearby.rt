@@ -6,6 +6,7 @@ ghost use Rattle.featureinfo.specs.Nearby.{nearby_of, has_pixel, meets, SomeNear
 use geom::{PictureSide, Pixel};
 use scanfill::{Cover, Span, Spans};
 use std::alloc::{AllocError, Global};
+use viewport::Projection;
 
 /// The pixels of a picture that are near the queried one: columns from one to before another, and rows likewise.
 #[derive(Clone, Copy)]
@@ -17,21 +18,22 @@ pub struct Nearby {
 }
 
 impl Nearby {
-    /// The pixels within so many columns and rows of a pixel of the picture.
-    pub fn of(sides: (PictureSide, PictureSide), column: u16, row: u16, tolerance: u8) -> Self
-        requires column { column < sides.0 }
-        requires row { row < sides.1 }
-        ensures value { result ≡ nearby_of sides.0 sides.1 tolerance column row }
+    /// The pixels within so many columns and rows of a pixel of the projection's picture.
+    pub fn of(projection: &Projection, column: u16, row: u16, tolerance: u8) -> Self
+        requires column { column < projection.now.width }
+        requires row { row < projection.now.height }
+        ensures value { result ≡ nearby_of projection.now.width projection.now.height tolerance column row }
         ensures some { result.left < result.right }
-        ensures width { result.right ≤ sides.0 }
+        ensures width { result.right ≤ projection.now.width }
         ensures height { result.bottom ≤ MAX_PICTURE_SIDE }
     {
+        let (width, height) = (projection.width().pixels(), projection.height().pixels());
         let tolerance = u16::from(tolerance);
         Nearby {
             left: column.saturating_sub(tolerance),
-            right: (column + tolerance + 1).min(sides.0.pixels()),
+            right: (column + tolerance + 1).min(width),
             top: row.saturating_sub(tolerance),
-            bottom: (row + tolerance + 1).min(sides.1.pixels()),
+            bottom: (row + tolerance + 1).min(height),
         }
     }
 

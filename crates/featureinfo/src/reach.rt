@@ -7,6 +7,7 @@ use crate::nearby::Nearby;
 use crate::side::Side;
 use geom::{Device, World};
 use mapdefs::{BlockBox, Part, split_block};
+use vertices::Block;
 use viewport::Projection;
 
 // Half a pixel beyond a side of the pixels, in sixteenths of a pixel.
@@ -57,17 +58,12 @@ fn box_reaches(projection: &Projection, area: BlockBox, limit: i64, side: Side) 
 }
 
 // Whether one of the vertices, which lie in the box, doesn't lie beyond that side. If the box does, none is tested.
-fn block_reaches(
-    projection: &Projection,
-    area: BlockBox,
-    vertices: &[World],
-    limit: i64,
-    side: Side,
-) -> bool
-    requires { AllByRecursion (HasPlace area) vertices.now }
-    ensures { result ≡ part_reaches projection.now vertices.now limit side }
+fn block_reaches(projection: &Projection, block: &Block<'_>, limit: i64, side: Side) -> bool
+    requires { AllByRecursion (HasPlace block.now.area) block.now.vertices.now }
+    ensures { result ≡ part_reaches projection.now block.now.vertices.now limit side }
 {
-    box_reaches(projection, area, limit, side) && vertices_reach(projection, vertices, limit, side)
+    box_reaches(projection, block.area, limit, side)
+        && vertices_reach(projection, block.vertices, limit, side)
 }
 
 // Whether one vertex of a part at least doesn't lie beyond that side. A block is skipped if its box lies beyond it.
@@ -76,8 +72,12 @@ fn part_reaches(projection: &Projection, part: &Part, limit: i64, side: Side) ->
 {
     let mut left = part.as_slice();
     for area in part.boxes() {
-        let (block, behind) = split_block(left);
-        if block_reaches(projection, *area, block, limit, side) {
+        let (vertices, behind) = split_block(left);
+        let block = Block {
+            area: *area,
+            vertices,
+        };
+        if block_reaches(projection, &block, limit, side) {
             return true;
         }
         left = behind;

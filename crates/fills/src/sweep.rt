@@ -34,7 +34,9 @@ fn fill_next(
     ensures rows { OnOk result ((sweep.old.row ≤ sweep.new.row) × (sweep.new.row ≤ sweep.old.height)) }
     ensures more { IfOk result (λ more. more ≡ true → sweep.old.row < sweep.new.row) }
     ensures last { IfOk result (λ more. more ≡ false → sweep.new.row ≡ sweep.old.height) }
-    ensures filled { OnOk result (HasRowsFilled (λ i j. is_covered sweep.old.edges (pixel_centre (pos i) (pos j))) (λ i j. Some colour) sweep.old.row sweep.new.row canvas.old canvas.new) }
+    ensures filled { OnOk result
+        (HasRowsFilled (λ i j. is_covered sweep.old.edges (pixel_centre (pos i) (pos j)))
+        (λ i j. Some colour) sweep.old.row sweep.new.row canvas.old canvas.new) }
 {
     sweep.skip();
     let row = sweep.row();

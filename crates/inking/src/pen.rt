@@ -120,15 +120,14 @@ pub fn has_box(area: &WorldBox, block: BlockBox) -> bool
 {
     let (minx, maxx) = (block.minx().get(), block.maxx().get());
     let (miny, maxy) = (block.miny().get(), block.maxy().get());
-    encloses((area.minx(), area.maxx()), (minx, maxx))
-        && encloses((area.miny(), area.maxy()), (miny, maxy))
+    encloses(area.minx(), minx, maxx, area.maxx()) && encloses(area.miny(), miny, maxy, area.maxy())
 }
 
-// Whether the numbers between two lie between two others.
-fn encloses(outer: (Micro, Micro), inner: (Micro, Micro)) -> bool
-    ensures { result ≡ (int_le outer.0 inner.0 && int_le inner.1 outer.1) }
+// Whether the numbers from one to another lie between the least and the most.
+fn encloses(least: Micro, from: Micro, to: Micro, most: Micro) -> bool
+    ensures { result ≡ (int_le least from && int_le to most) }
 {
-    outer.0.millionths() <= inner.0.millionths() && inner.1.millionths() <= outer.1.millionths()
+    least.millionths() <= from.millionths() && to.millionths() <= most.millionths()
 }
 
 // Whether a number lies between two others, inclusive.

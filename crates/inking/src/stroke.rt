@@ -29,7 +29,9 @@ pub fn paint_along_parts(
     closed: bool,
 ) -> Result<(), AllocError>
     requires { IsOf pen.now canvas.old }
-    ensures { OnOk result (IsFilled (λ i j. line.covers_pixel (line_of (points_of pen.now.view parts.now) closed pen.now.width) (pos i) (pos j)) (λ i j. Some pen.now.colour) canvas.old canvas.new) }
+    ensures { OnOk result
+        (IsFilled (λ i j. line.covers_pixel (line_of (points_of pen.now.view parts.now) closed pen.now.width) (pos i) (pos j))
+        (λ i j. Some pen.now.colour) canvas.old canvas.new) }
 {
     for part in parts {
         paint_along(canvas, pen, part, closed)?;
@@ -45,7 +47,8 @@ fn paint_along(
     closed: bool,
 ) -> Result<(), AllocError>
     requires { IsOf pen.now canvas.old }
-    ensures { OnOk result (IsFilled (part_covers closed pen.now.width (map (device_point pen.now.view) part.now)) (λ i j. Some pen.now.colour) canvas.old canvas.new) }
+    ensures { OnOk result
+        (IsFilled (part_covers closed pen.now.width (map (device_point pen.now.view) part.now)) (λ i j. Some pen.now.colour) canvas.old canvas.new) }
 {
     if part.len() <= FEW_VERTICES {
         return paint_small(canvas, pen, part.as_slice(), closed);
@@ -61,7 +64,8 @@ fn paint_small(
     closed: bool,
 ) -> Result<(), AllocError>
     requires { IsOf pen.now canvas.old }
-    ensures { OnOk result (IsFilled (part_covers closed pen.now.width (map (device_point pen.now.view) part.now)) (λ i j. Some pen.now.colour) canvas.old canvas.new) }
+    ensures { OnOk result
+        (IsFilled (part_covers closed pen.now.width (map (device_point pen.now.view) part.now)) (λ i j. Some pen.now.colour) canvas.old canvas.new) }
 {
     let Some((first, rest)) = part.split_first() else {
         return Ok(());
@@ -106,7 +110,8 @@ fn paint_blocks(
     closed: bool,
 ) -> Result<(), AllocError>
     requires { IsOf pen.now canvas.old }
-    ensures { OnOk result (IsFilled (part_covers closed pen.now.width (map (device_point pen.now.view) part.now)) (λ i j. Some pen.now.colour) canvas.old canvas.new) }
+    ensures { OnOk result
+        (IsFilled (part_covers closed pen.now.width (map (device_point pen.now.view) part.now)) (λ i j. Some pen.now.colour) canvas.old canvas.new) }
 {
     let Some((first, rest)) = part.as_slice().split_first() else {
         return Ok(());

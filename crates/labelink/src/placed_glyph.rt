@@ -2,7 +2,7 @@ ghost use Rattle.std.specs.Prelude.{◌≡◌, ℕ, ◌<◌, ◌≤◌, ◌^◌,
 ghost use Rattle.geom.specs.Range.{IsBelow};
 ghost use Rattle.labelink.specs.Ink.{covers_glyph};
 
-use bdffont::inks_at;
+use bdffont::{GlyphCorner, inks_at};
 use clip::RowRange;
 use geom::PictureSide;
 use mapdefs::Glyph;
@@ -71,7 +71,11 @@ impl<'a> PlacedGlyph<'a> {
     pub fn inks(&self, i: i64, j: i64) -> bool
         ensures { result ≡ covers_glyph self.now i j }
     {
-        inks_at(self.glyph, (self.left, self.top), i, j)
+        let corner = GlyphCorner {
+            left: self.left,
+            top: self.top,
+        };
+        inks_at(self.glyph, corner, i, j)
     }
 
     /// Whether it covers the pixel in a column and a row.

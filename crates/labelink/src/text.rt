@@ -30,8 +30,8 @@ pub fn text_glyphs<'a>(
     let mut rest = text;
     while let Some((character, after)) = split_char(rest) {
         if let Some(glyph) = glyph_of(glyphs, character) {
-            let (left, top) = corner_of(fields.bounds, at, pen, glyph.bounds);
-            placed.push(PlacedGlyph::new(glyph, left, top))?;
+            let corner = corner_of(fields.bounds, at, pen, glyph.bounds);
+            placed.push(PlacedGlyph::new(glyph, corner.left, corner.top))?;
             pen += u32::from(glyph.advance);
         }
         rest = after;

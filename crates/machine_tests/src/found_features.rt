@@ -1,7 +1,7 @@
 ghost use Rattle.std.specs.Prelude.{◌≡◌, length};
 
 use crate::maps::map_of;
-use featureinfo::{LayerHits, PixelQuery, hits, text};
+use featureinfo::{LayerHits, LayerQuery, hits, text};
 use geom::{Micro, PictureSide, WorldBox};
 use mapdefs::{Items, Map, Shared};
 use scaledenom::Scale;
@@ -52,12 +52,13 @@ fn hits_in_window(alloc: Global, map: &Map, margin: u16, count: u32) -> Result<S
     let window = view.window(margin.min(MAX_MARGIN));
     let near = InWindow::new(alloc, map, window);
     let scale = Scale::of(4_000_000, side);
-    let query = PixelQuery {
+    let query = LayerQuery {
+        layer: 0,
         column: 1,
         row: 1,
         count,
     };
-    match hits(alloc, map, &near, view, scale, 0, query) {
+    match hits(alloc, map, &near, view, scale, query) {
         Ok(found) => indices(alloc, found.as_slice()),
         Err(_) => format!(in alloc; "no memory"),
     }

@@ -130,18 +130,12 @@ impl<'a> Walker<'a> {
     }
 
     // What is found at a fault. What is open is taken from the walker.
-    fn stop(
-        &mut self,
-        line: u64,
-        kind: ParseKind,
-        token: Option<Token<'a>>,
-        alloc: Global,
-    ) -> Explained<'a>
-        ensures { result ≡ record { line = line; kind = kind; token = token.entry; openings = self.old.openings; hints = self.old.hints } }
+    fn stop(&mut self, fault: Fault, token: Option<Token<'a>>, alloc: Global) -> Explained<'a>
+        ensures { result ≡ record { line = fault.line; kind = fault.kind; token = token.entry; openings = self.old.openings; hints = self.old.hints } }
     {
         Explained {
-            line,
-            kind,
+            line: fault.line,
+            kind: fault.kind,
             token,
             openings: mem::replace(&mut self.openings, Stack::new(alloc)),
             hints: self.hints,
@@ -157,10 +151,13 @@ impl<'a> Walker<'a> {
                 if self.openings.is_empty() {
                     return Finding::Sound;
                 }
-                Finding::Faulty(self.stop(line, ParseKind::MissingEnd, None, alloc))
+                let kind = ParseKind::MissingEnd;
+                Finding::Faulty(self.stop(Fault { line, kind }, None, alloc))
             }
             Tail::Breaks(fault) => {
-                Finding::Faulty(self.stop(fault.line, ParseKind::Lex(fault.kind), None, alloc))
+                let line = fault.line;
+                let kind = ParseKind::Lex(fault.kind);
+                Finding::Faulty(self.stop(Fault { line, kind }, None, alloc))
             }
         }
     }
@@ -175,7 +172,8 @@ fn walk<'a>(walker: &mut Walker<'a>, tokens: &mut Tokens<'a>, alloc: Global) -> 
             Ok(token) => match walker.take(&token, alloc) {
                 Ok(()) => {}
                 Err(ParseFault::At { line, kind }) => {
-                    return Finding::Faulty(walker.stop(line, kind, Some(token), alloc));
+                    let fault = Fault { line, kind };
+                    return Finding::Faulty(walker.stop(fault, Some(token), alloc));
                 }
                 Err(ParseFault::NoMemory) => return Finding::NoMemory,
             },

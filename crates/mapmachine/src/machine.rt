@@ -7,9 +7,9 @@ use crate::reply::{Event, Reply};
 use answers::Answer;
 use batches::{BatchError, BatchFault, BatchKind, MAX_BATCH, after_batch};
 use capabilities::document;
-use compose::draw;
+use compose::{PictureQuery, draw};
 use crsaxes::Crs;
-use featureinfo::{LayerHits, PixelQuery, hits_in, text};
+use featureinfo::{LayerHits, LayerQuery, hits_in, text};
 use geom::{PictureSide, WorldBox};
 use layers::Layers;
 use mapdefs::{Items, Map, Picture, Shared};
@@ -164,13 +164,11 @@ impl Machine {
         requires within { IsMapWithin (length self.now.map.layers) request.now }
         ensures { IfOk result (Answers self.now (Ok (Request.Map request.now))) }
     {
-        let picture = draw(
-            self.alloc,
-            &self.scene(request),
-            &self.layers,
-            request.chosen.as_slice(),
-            request.background,
-        )?;
+        let asked = PictureQuery {
+            chosen: request.chosen.as_slice(),
+            background: request.background,
+        };
+        let picture = draw(self.alloc, &self.scene(request), &self.layers, &asked)?;
         written_picture(self.alloc, request.format, &picture)
     }
 
@@ -181,12 +179,13 @@ impl Machine {
         ensures { IfOk result (AreAskedHits self.now.map request.now layer) }
     {
         let scene = self.scene(&request.map);
-        let asked = PixelQuery {
+        let asked = LayerQuery {
+            layer,
             column: request.column,
             row: request.row,
             count: request.count,
         };
-        let features = hits_in(self.alloc, &scene, &self.layers, layer, asked)?;
+        let features = hits_in(self.alloc, &scene, &self.layers, asked)?;
         Ok(LayerHits {
             layer,
             features: Shared::new(self.alloc, features)?,

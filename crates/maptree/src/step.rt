@@ -1,11 +1,12 @@
-ghost use Rattle.std.specs.Prelude.{◌≡◌, ◌<◌, Ok, Err, OnOk, MatchResult, option_and_then};
+ghost use Rattle.std.specs.Prelude.{◌≡◌, ◌<◌, Ok, Err, IfOk, OnOk, MatchResult, option_and_then};
 ghost use Rattle.mapdefs.specs.declared.limits.TheConstants.{MAX_VERTICES};
 ghost use Rattle.mapwords.specs.Fault.{IsErrorOf};
+ghost use Rattle.mapwords.specs.declared.role.Block.{Block as BlockValue};
 ghost use Rattle.maptree.specs.declared.draft.Drafts.{Drafts as DraftsValue};
 ghost use Rattle.mapwords.specs.Keyword.{keyword_at};
 ghost use Rattle.maptree.specs.Parts.{vertex_count};
 ghost use Rattle.mapwords.specs.Table.{role_of};
-ghost use Rattle.maptree.specs.Step.{read_end, read_keyword, read_value, coordinate_at, read_longitude, read_latitude, skip, read_pair, read_token};
+ghost use Rattle.maptree.specs.Step.{read_end, read_keyword, note_step, read_value, coordinate_at, read_longitude, read_latitude, skip, read_pair, read_token};
 
 use crate::context::{Context, Move};
 use crate::draft::Drafts;
@@ -15,7 +16,7 @@ use mapwords::{
     Block, Expected, Fault, Keyword, ParseFault, ParseKind, Role, ValueStep, coordinate_in,
     fault_of, is_end, is_value, pair_expects, role_of, value_step,
 };
-use std::alloc::Global;
+use std::alloc::{AllocError, Global};
 
 // Skips a token, unless it ends the block or opens another one.
 fn skip(block: Block, token: &Token) -> Move
@@ -46,6 +47,18 @@ fn read_pair(block: Block, token: &Token) -> Result<Move, Fault>
     }
     let expected = pair_expects(block, token.text);
     Ok(Move::Enters(Context::Values(block, expected)))
+}
+
+// Reads a token of a value, which isn't an END. What is read is still to be noted.
+fn read_step(expected: Expected, token: &Token, alloc: Global) -> Result<ValueStep, ParseFault>
+    ensures { (b : BlockValue) (d : DraftsValue) → MatchResult result
+        (λ step. read_value b expected d token.now ≡ note_step b (Ok step) d)
+        (IsErrorOf (read_value b expected d token.now)) }
+{
+    if is_end(token) {
+        return Err(fault_of(ParseKind::MissingValue, token).into());
+    }
+    value_step(expected, token, alloc)
 }
 
 impl Drafts {
@@ -88,22 +101,11 @@ impl Drafts {
         }
     }
 
-    // Reads a value of a block.
-    fn read_value(
-        &mut self,
-        block: Block,
-        expected: Expected,
-        token: &Token,
-        alloc: Global,
-    ) -> Result<Move, ParseFault>
-        ensures { MatchResult result
-            (λ next. read_value block expected self.old token.now ≡ Ok (next, self.new))
-            (IsErrorOf (read_value block expected self.old token.now)) }
+    // Notes a step of a value of a block.
+    fn note_step(&mut self, block: Block, step: ValueStep) -> Result<Move, AllocError>
+        ensures { IfOk result (λ next. note_step block (Ok step) self.old ≡ Ok (next, self.new)) }
     {
-        if is_end(token) {
-            return Err(fault_of(ParseKind::MissingValue, token).into());
-        }
-        match value_step(expected, token, alloc)? {
+        match step {
             ValueStep::More(next) => Ok(Move::GoesOn(Context::Values(block, next))),
             ValueStep::Whole(value) => {
                 self.set(block, value)?;
@@ -182,7 +184,10 @@ impl Drafts {
                 | Block::Label
                 | Block::Feature => self.read_keyword(block, token, alloc),
             },
-            Context::Values(block, expected) => self.read_value(block, expected, token, alloc),
+            Context::Values(block, expected) => {
+                let step = read_step(expected, token, alloc)?;
+                Ok(self.note_step(block, step)?)
+            }
             Context::Latitude(longitude) => self.read_latitude(longitude, token),
         }
     }

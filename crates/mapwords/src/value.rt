@@ -110,10 +110,11 @@ fn colour_step(keyword: ColourKeyword, token: &Token) -> Option<ValueStep>
 }
 
 // Reads the green of a colour, which its blue follows.
-fn green_step(keyword: ColourKeyword, red: Component, green: Option<Component>) -> Option<ValueStep>
-    ensures { result ≡ green_step keyword red green }
+fn green_step(keyword: ColourKeyword, red: Component, text: &str) -> Option<ValueStep>
+    ensures { result ≡ green_step keyword red (component_of text.now) }
 {
-    Some(ValueStep::More(Expected::Blue(keyword, red, green?)))
+    let green = Component::read(text)?;
+    Some(ValueStep::More(Expected::Blue(keyword, red, green)))
 }
 
 // Reads the blue of a colour, which is whole with it.
@@ -121,11 +122,11 @@ fn blue_step(
     keyword: ColourKeyword,
     red: Component,
     green: Component,
-    blue: Option<Component>,
+    text: &str,
 ) -> Option<ValueStep>
-    ensures { result ≡ blue_step keyword red green blue }
+    ensures { result ≡ blue_step keyword red green (component_of text.now) }
 {
-    let colour = rgb_of(red, green, blue?);
+    let colour = rgb_of(red, green, Component::read(text)?);
     Some(ValueStep::Whole(Value::Colour(keyword, colour)))
 }
 
@@ -252,13 +253,8 @@ fn plain_step(expected: Expected, token: &Token) -> Option<ValueStep>
             keyword, scale,
         ))),
         Expected::Colour(keyword) => colour_step(keyword, token),
-        Expected::Green(keyword, red) => green_step(keyword, red, Component::read(text)),
-        Expected::Blue(keyword, red, green) => blue_step(
-            keyword,
-            red,
-            green,
-            Component::read(text),
-        ),
+        Expected::Green(keyword, red) => green_step(keyword, red, text),
+        Expected::Blue(keyword, red, green) => blue_step(keyword, red, green, text),
         Expected::West => west_step(Coordinate::read(text)),
         Expected::South(x) => south_step(x, Coordinate::read(text)),
         Expected::East(x, y) => east_step(x, y, Coordinate::read(text)),

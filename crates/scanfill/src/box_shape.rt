@@ -59,10 +59,22 @@ fn read_row<S: BoxShape>(
 {
     let end = width.pixels();
     let span = shape.columns(end);
-    let mut reading = Reading::Outside.go_on(0, span.from, false, out)?;
+    let before = Span {
+        from: 0,
+        to: span.from,
+    };
+    let mut reading = Reading::Outside.go_on(before, false, out)?;
     for column in span.from..span.to {
-        reading = reading.go_on(column, column + 1, shape.has_pixel(column, j), out)?;
+        let pixel = Span {
+            from: column,
+            to: column + 1,
+        };
+        reading = reading.go_on(pixel, shape.has_pixel(column, j), out)?;
     }
-    let reading = reading.go_on(span.to, end, false, out)?;
+    let behind = Span {
+        from: span.to,
+        to: end,
+    };
+    let reading = reading.go_on(behind, false, out)?;
     reading.finish(end, out)
 }

@@ -18,19 +18,19 @@ pub enum Reading {
 }
 
 impl Reading {
-    /// Reads the pixels from one column to before another, of which all are covered or none is. A run that
-    /// ends before them is added to `out`. They may be none.
+    /// Reads the pixels in some columns, of which all are covered or none is. A run that ends before them is
+    /// added to `out`. They may be none.
     pub fn go_on(
         self,
-        from: u16,
-        to: u16,
+        columns: Span,
         is_covered: bool,
         out: &mut Spans,
     ) -> Result<Reading, AllocError>
-        requires { from ≤ to }
-        ensures { IfOk result (λ next. (test : ℕ → Bool) (end : ℕ) → to ≤ end → AllAre test is_covered from to →
-            IsReading test end from self out.old → IsReading test end to next out.new) }
+        requires { columns.from ≤ columns.to }
+        ensures { IfOk result (λ next. (test : ℕ → Bool) (end : ℕ) → columns.to ≤ end → AllAre test is_covered columns.from columns.to →
+            IsReading test end columns.from self out.old → IsReading test end columns.to next out.new) }
     {
+        let Span { from, to } = columns;
         if from == to {
             return Ok(self);
         }

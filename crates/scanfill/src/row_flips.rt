@@ -3,7 +3,7 @@ ghost use Rattle.scanfill.specs.RowFlips.{AreFlippedFrom, AreWithin, is_flipped}
 ghost use Rattle.scanfill.specs.Runs.{AreRunsFrom};
 
 use crate::reading::Reading;
-use crate::span::Spans;
+use crate::span::{Span, Spans};
 use clip::clamped;
 use geom::PictureSide;
 use std::alloc::{AllocError, Global};
@@ -96,11 +96,15 @@ fn read_flips(flips: &[bool], first: u16, past: u16, out: &mut Spans) -> Result<
     let mut at = 0;
     for column in first..past {
         if flips[usize::from(column)] {
-            reading = reading.go_on(at, column, is_inside, out)?;
+            let columns = Span {
+                from: at,
+                to: column,
+            };
+            reading = reading.go_on(columns, is_inside, out)?;
             is_inside = !is_inside;
             at = column;
         }
     }
-    let reading = reading.go_on(at, end, is_inside, out)?;
+    let reading = reading.go_on(Span { from: at, to: end }, is_inside, out)?;
     reading.finish(end, out)
 }

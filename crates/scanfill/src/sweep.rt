@@ -55,7 +55,7 @@ impl<'a> Sweep<'a> {
         let mut work = before;
         let mut crossings = Vec::new(alloc);
         for edge in edges {
-            push_crossing(&mut crossings, *edge, (width, height), &mut work)?;
+            push_crossing(&mut crossings, *edge, Sides { width, height }, &mut work)?;
         }
         let sweep = Sweep {
             edges: edges.as_slice(),
@@ -112,22 +112,29 @@ impl<'a> Sweep<'a> {
     }
 }
 
-// Adds the crossing of an edge, unless it counts for no pixel of a picture of that width and height.
+// The sides of a picture.
+#[derive(Clone, Copy)]
+struct Sides {
+    width: PictureSide,
+    height: PictureSide,
+}
+
+// Adds the crossing of an edge, unless it counts for no pixel of a picture with these sides.
 fn push_crossing(
     crossings: &mut Vec<Crossing>,
     edge: Edge,
-    sides: (PictureSide, PictureSide),
+    sides: Sides,
     work: &mut Work,
 ) -> Result<(), AllocError>
-    requires height { sides.1 ≤ MAX_PICTURE_SIDE }
+    requires height { sides.height ≤ MAX_PICTURE_SIDE }
     requires some { All (λ c. row_of c < end_of c) crossings.old.items }
     ensures some { OnOk result (All (λ c. row_of c < end_of c) crossings.new.items) }
-    ensures counts { OnOk result ((i j : ℕ) → i < sides.0 → j < sides.1 →
+    ensures counts { OnOk result ((i j : ℕ) → i < sides.width → j < sides.height →
         count_by (reaches i j) crossings.new.items
         ≡ count_by (reaches i j) crossings.old.items + cond (crosses_at_or_left (pixel_centre (pos i) (pos j)) edge) 1 0) }
-    ensures work { OnOk result (work.new ≡ (if is_walk (class_of edge sides.0 sides.1) then record { divisions = min (work.old.divisions + 2) (2 ^ 64 - 1) } else work.old)) }
+    ensures work { OnOk result (work.new ≡ (if is_walk (class_of edge sides.width sides.height) then record { divisions = min (work.old.divisions + 2) (2 ^ 64 - 1) } else work.old)) }
 {
-    match classify(edge, sides.0, sides.1) {
+    match classify(edge, sides.width, sides.height) {
         EdgeClass::Drop => {}
         EdgeClass::LeftOfView { rows } => crossings.push(Crossing::Left { rows })?,
         EdgeClass::Walk { rows } => {

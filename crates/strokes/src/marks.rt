@@ -81,10 +81,19 @@ fn read_marks(marks: &[bool], first: u16, past: u16, out: &mut Spans) -> Result<
 {
     let end = marks.len() as u16;
     let last = first.max(past);
-    let mut reading = Reading::Outside.go_on(0, first, false, out)?;
+    let before = Span { from: 0, to: first };
+    let mut reading = Reading::Outside.go_on(before, false, out)?;
     for column in first..last {
-        reading = reading.go_on(column, column + 1, marks[usize::from(column)], out)?;
+        let pixel = Span {
+            from: column,
+            to: column + 1,
+        };
+        reading = reading.go_on(pixel, marks[usize::from(column)], out)?;
     }
-    let reading = reading.go_on(last, end, false, out)?;
+    let behind = Span {
+        from: last,
+        to: end,
+    };
+    let reading = reading.go_on(behind, false, out)?;
     reading.finish(end, out)
 }

@@ -8,7 +8,7 @@ ghost use Rattle.wmsquery.specs.Within.{IsInformationWithin};
 use crate::error::QueryError;
 use crate::fault::{Parameter, WmsFault, checked};
 use crate::lists::{asked_layers, names_of};
-use crate::picture::read_map;
+use crate::picture::{PictureTexts, read_map};
 use crate::request::InformationRequest;
 use crate::texts::ParameterTexts;
 use crate::values::{feature_count, info_format, pixel};
@@ -25,22 +25,17 @@ pub struct QueriedPixel {
     pub row: u16,
 }
 
-// The layers whose features are requested. `names` are the names that LAYERS lists.
-fn read_asked(
-    alloc: Global,
-    texts: &ParameterTexts,
-    names: &[&str],
-    map: &Map,
-) -> Result<Items<usize>, QueryError>
-    requires { each (λ x. x.now) names.now ≡ layer_names (kept texts.now) }
+// The layers whose features are requested.
+fn read_asked(alloc: Global, query: &PictureTexts, map: &Map) -> Result<Items<usize>, QueryError>
+    requires { each (λ x. x.now) query.now.names.now ≡ layer_names (kept query.now.texts.now) }
     ensures value { MatchResult result
-        (λ asked. asked_read map.now (kept texts.now) ≡ Ok asked)
-        (IsErrorOf (asked_read map.now (kept texts.now))) }
+        (λ asked. asked_read map.now (kept query.now.texts.now) ≡ Ok asked)
+        (IsErrorOf (asked_read map.now (kept query.now.texts.now))) }
     ensures within { IfOk result (All (λ index. index < length map.now.layers)) }
 {
-    let queried = names_of(alloc, texts.given(Parameter::QueryLayers))?;
-    let asked = asked_layers(alloc, map, names, &queried)?;
-    let format = info_format(texts.given(Parameter::InfoFormat));
+    let queried = names_of(alloc, query.texts.given(Parameter::QueryLayers))?;
+    let asked = asked_layers(alloc, map, query.names, &queried)?;
+    let format = info_format(query.texts.given(Parameter::InfoFormat));
     checked(Parameter::InfoFormat, format)?;
     Ok(asked)
 }
@@ -66,22 +61,21 @@ fn read_pixel(
     Ok(QueriedPixel { count, column, row })
 }
 
-/// The request for feature information. `names` are the names that LAYERS lists.
+/// The request for feature information.
 pub fn read_information(
     alloc: Global,
-    texts: &ParameterTexts,
-    names: &[&str],
+    query: &PictureTexts,
     map: &Map,
 ) -> Result<InformationRequest, QueryError>
-    requires { each (λ x. x.now) names.now ≡ layer_names (kept texts.now) }
+    requires { each (λ x. x.now) query.now.names.now ≡ layer_names (kept query.now.texts.now) }
     ensures value { MatchResult result
-        (λ request. information_read map.now (kept texts.now) ≡ Ok request)
-        (IsErrorOf (information_read map.now (kept texts.now))) }
+        (λ request. information_read map.now (kept query.now.texts.now) ≡ Ok request)
+        (IsErrorOf (information_read map.now (kept query.now.texts.now))) }
     ensures within { IfOk result (IsInformationWithin (length map.now.layers)) }
 {
-    let picture = read_map(alloc, Operation::Information, texts, names, map)?;
-    let layers = read_asked(alloc, texts, names, map)?;
-    let queried = read_pixel(picture.width, picture.height, texts)?;
+    let picture = read_map(alloc, Operation::Information, query, map)?;
+    let layers = read_asked(alloc, query, map)?;
+    let queried = read_pixel(picture.width, picture.height, query.texts)?;
     Ok(InformationRequest {
         map: picture,
         layers,

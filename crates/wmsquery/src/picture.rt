@@ -33,24 +33,31 @@ pub struct Output {
     pub background: Option<Rgb>,
 }
 
-// The layers of a picture. `names` are the names that LAYERS lists.
+/// The texts of a query for a picture, and the names that its LAYERS lists.
+#[derive(Drop)]
+pub struct PictureTexts<'a> {
+    pub texts: &'a ParameterTexts,
+    pub names: &'a [&'a str],
+}
+
+// The layers of a picture.
 fn read_layers(
     alloc: Global,
     operation: Operation,
-    texts: &ParameterTexts,
-    names: &[&str],
+    query: &PictureTexts,
     map: &Map,
 ) -> Result<Items<usize>, QueryError>
-    requires { each (λ x. x.now) names.now ≡ layer_names (kept texts.now) }
+    requires { each (λ x. x.now) query.now.names.now ≡ layer_names (kept query.now.texts.now) }
     ensures value { MatchResult result
-        (λ chosen. layers_read map.now operation (kept texts.now) ≡ Ok chosen)
-        (IsErrorOf (layers_read map.now operation (kept texts.now))) }
+        (λ chosen. layers_read map.now operation (kept query.now.texts.now) ≡ Ok chosen)
+        (IsErrorOf (layers_read map.now operation (kept query.now.texts.now))) }
     ensures within { IfOk result (All (λ index. index < length map.now.layers)) }
 {
-    checked(Parameter::Version, version(texts.given(Parameter::Version)))?;
-    let chosen = layers(alloc, map, names)?;
-    let text = texts.text(Parameter::Styles);
-    let styles = styles(alloc, operation, names.len(), text)?;
+    let version = version(query.texts.given(Parameter::Version));
+    checked(Parameter::Version, version)?;
+    let chosen = layers(alloc, map, query.names)?;
+    let text = query.texts.text(Parameter::Styles);
+    let styles = styles(alloc, operation, query.names.len(), text)?;
     checked(Parameter::Styles, styles)?;
     Ok(chosen)
 }
@@ -91,23 +98,22 @@ fn read_output(operation: Operation, texts: &ParameterTexts, map: &Map) -> Resul
     })
 }
 
-/// The request for a picture, or for the picture whose features are requested. `names` are the names that LAYERS lists.
+/// The request for a picture, or for the picture whose features are requested.
 pub fn read_map(
     alloc: Global,
     operation: Operation,
-    texts: &ParameterTexts,
-    names: &[&str],
+    query: &PictureTexts,
     map: &Map,
 ) -> Result<MapRequest, QueryError>
-    requires { each (λ x. x.now) names.now ≡ layer_names (kept texts.now) }
+    requires { each (λ x. x.now) query.now.names.now ≡ layer_names (kept query.now.texts.now) }
     ensures value { MatchResult result
-        (λ request. map_read map.now operation (kept texts.now) ≡ Ok request)
-        (IsErrorOf (map_read map.now operation (kept texts.now))) }
+        (λ request. map_read map.now operation (kept query.now.texts.now) ≡ Ok request)
+        (IsErrorOf (map_read map.now operation (kept query.now.texts.now))) }
     ensures within { IfOk result (IsMapWithin (length map.now.layers)) }
 {
-    let chosen = read_layers(alloc, operation, texts, names, map)?;
-    let viewport = read_viewport(texts, map)?;
-    let output = read_output(operation, texts, map)?;
+    let chosen = read_layers(alloc, operation, query, map)?;
+    let viewport = read_viewport(query.texts, map)?;
+    let output = read_output(operation, query.texts, map)?;
     Ok(MapRequest {
         chosen,
         crs: viewport.crs,

@@ -8,7 +8,7 @@ use crate::error::QueryError;
 use crate::fault::{Parameter, WmsFault, checked};
 use crate::information::read_information;
 use crate::lists::names_of;
-use crate::picture::read_map;
+use crate::picture::{PictureTexts, read_map};
 use crate::request::Request;
 use crate::texts::ParameterTexts;
 use crate::values::{operation, service, update_sequence};
@@ -47,13 +47,15 @@ fn read_texts(
         }
         Operation::Map => {
             let names = names_of(alloc, texts.given(Parameter::Layers))?;
-            let request = read_map(alloc, Operation::Map, texts, &names, map)?;
-            Ok(Request::Map(request))
+            let names = names.as_slice();
+            let query = PictureTexts { texts, names };
+            Ok(Request::Map(read_map(alloc, Operation::Map, &query, map)?))
         }
         Operation::Information => {
             let names = names_of(alloc, texts.given(Parameter::Layers))?;
-            let request = read_information(alloc, texts, &names, map)?;
-            Ok(Request::Information(request))
+            let names = names.as_slice();
+            let query = PictureTexts { texts, names };
+            Ok(Request::Information(read_information(alloc, &query, map)?))
         }
     }
 }

@@ -5,7 +5,7 @@ use Rattle.compose.proofs.paint.draw.Given as goal
 -- the layers before the rest have been mentioned
 abbrev pub invariant-loop-index : goal.invariant-loop-index
 invariant-loop-index g l = record {
-  drawn : IsDrawnTo l.scene l.chosen l.rest l.initial.drawing l.drawing;
+  drawn : IsDrawnTo l.scene l.asked.chosen.now l.rest l.initial.drawing l.drawing;
   layers : All (λ index. index < length l.scene.map.layers) l.rest;
 }
 

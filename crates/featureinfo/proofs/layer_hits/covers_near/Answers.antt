@@ -7,6 +7,6 @@ use Rattle.featureinfo.proofs.layer_hits.covers_near.Goals as goal
 
 pub returns-in-Point : goal.returns-in-Point
 returns-in-Point c =
-    subst (λ (k : Geometry). IsTrue c.points_near.result ↔ SomeNear c.args.nearby (covers_plainly c.args.scene.now.view k c.args.parts.now)) (sym c.in-Point.is)
-    (points-near c.args.scene.now.view c.args.nearby c.args.parts.now c.points_near.result
-    (c.points_near.ensures ∙ ap (λ view. points_near view c.args.parts.now c.args.nearby) c.projection.ensures))
+    subst (λ (k : Geometry). IsTrue c.points_near.result ↔ SomeNear c.args.queried.now.nearby (covers_plainly c.args.queried.now.scene.now.view k c.args.parts.now)) (sym c.in-Point.is)
+    (points-near c.args.queried.now.scene.now.view c.args.queried.now.nearby c.args.parts.now c.points_near.result
+    (c.points_near.ensures ∙ ap (λ view. points_near view c.args.parts.now c.args.queried.now.nearby) c.projection.ensures))

@@ -18,12 +18,11 @@ returns g c =
     let found : List ℕ = c.in_ok-found.found.items in
     let area : Area = window scene.view (layer.tolerance + 1) in
     let same : c.window.result ≡ area = c.window.ensures.value ∙ ap (λ n. window scene.view (n + 1)) c.from-margin.ensures in
-    let of-map : AreCandidatesOf scene.map c.args.layer area found =
-    subst (λ (w : Area). AreCandidatesOf scene.map c.args.layer w found) same
-    (subst (λ (m : MapFields). AreCandidatesOf m c.args.layer c.window.result found) c.requires.near c.in_ok-found.ensures) in
+    let of-map : AreCandidatesOf scene.map c.args.asked.layer area found =
+    subst (λ (w : Area). AreCandidatesOf scene.map c.args.asked.layer w found) same
+    (subst (λ (m : MapFields). AreCandidatesOf m c.args.asked.layer c.window.result found) c.requires.near c.in_ok-found.ensures) in
     let candidates : AreCandidates layer.features area found = rw c.layer-fields.ensures at of-map in
-    IfOk-weaker c.first_hits.result (AreFirstAmong (IsHitAt scene layer asked.column asked.row) asked.count c.deref.result.now) (AreHitsOf scene c.args.layer asked.column asked.row asked.count)
+    IfOk-weaker c.first_hits.result (AreFirstAmong (IsHitAt scene layer asked.column asked.row) asked.count found) (AreHitsOf scene c.args.asked.layer asked.column asked.row asked.count)
     (λ hits first. rw c.layer-fields.ensures
-    (first-of-all scene layer asked.column asked.row asked.count found hits c.window.ensures.limits c.window.ensures.width c.window.ensures.height candidates
-    (subst (λ (fs : List ℕ). AreFirstAmong (IsHitAt scene layer asked.column asked.row) asked.count fs hits) c.deref.ensures.value first)))
+    (first-of-all scene layer asked.column asked.row asked.count found hits c.window.ensures.limits c.window.ensures.width c.window.ensures.height candidates first))
     c.first_hits.ensures

@@ -11,8 +11,8 @@ returns-then-is_far c = (
   λ hit.
       let near = hit.near in
       let clash : true ≡ false =
-      sym c.if-is_far.true ∙ c.is_far.ensures ∙ ap (λ view. is_far view c.as_slice-parts.result.now c.args.nearby) c.projection.ensures
-      ∙ ap (λ (parts : List (List Place)). is_far c.args.scene.now.view parts c.args.nearby) c.as_slice-parts.ensures
-      ∙ not-far c.args.scene.now.view c.args.layer.now.kind c.args.feature.now.parts c.args.nearby near.column near.row (record { left = near.left; right = near.right; top = near.top; bottom = near.bottom }) near.passes in
+      sym c.if-is_far.true ∙ c.is_far.ensures ∙ ap (λ view. is_far view c.as_slice-parts.result.now c.args.queried.now.nearby) c.projection.ensures
+      ∙ ap (λ (parts : List (List Place)). is_far c.args.queried.now.scene.now.view parts c.args.queried.now.nearby) c.as_slice-parts.ensures
+      ∙ not-far c.args.queried.now.scene.now.view c.args.layer.now.kind c.args.feature.now.parts c.args.queried.now.nearby near.column near.row (record { left = near.left; right = near.right; top = near.top; bottom = near.bottom }) near.passes in
       absurd (cc),
 )

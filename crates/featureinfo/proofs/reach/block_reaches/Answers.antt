@@ -9,5 +9,5 @@ pub returns-else-box_reaches : goal.returns-else-box_reaches
 returns-else-box_reaches c =
     let word : to_z w64 (of_z w64 c.args.limit) ≡ c.args.limit = to_z-of_z w64 c.args.limit c.ranges.limit in
     c.if-box_reaches.false
-    ∙ sym (all-beyond c.args.projection.now c.args.area c.args.limit c.args.side c.args.vertices.now c.box_reaches.ensures.limits c.requires
+    ∙ sym (all-beyond c.args.projection.now c.args.block.now.area c.args.limit c.args.side c.args.block.now.vertices.now c.box_reaches.ensures.limits c.requires
     (rw word at (sym c.box_reaches.ensures.value ∙ c.if-box_reaches.false)))

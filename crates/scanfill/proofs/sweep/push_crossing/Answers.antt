@@ -13,10 +13,10 @@ use Rattle.scanfill.proofs.Sweeping.{rows-within}
 use Rattle.scanfill.proofs.sweep.push_crossing.Goals as goal
 
 pub start-walk-requires-clause-below : goal.start-walk-requires-clause-below
-start-walk-requires-clause-below c = omega (arith, rows-within c.args.edge c.args.sides.1 c.in-Walk.rows c.in-Walk.ensures.cases.0, c.requires.height)
+start-walk-requires-clause-below c = omega (arith, rows-within c.args.edge c.args.sides.height c.in-Walk.rows c.in-Walk.ensures.cases.0, c.requires.height)
 
 pub returns-in-Drop-clause-counts : goal.returns-in-Drop-clause-counts
-returns-in-Drop-clause-counts c = λ i j column row. rw (drop-share c.args.edge c.args.sides.0 c.args.sides.1 i j c.in-Drop.ensures.cases column row) (omega arith)
+returns-in-Drop-clause-counts c = λ i j column row. rw (drop-share c.args.edge c.args.sides.width c.args.sides.height i j c.in-Drop.ensures.cases column row) (omega arith)
 
 pub returns-in_ok-push-in-LeftOfView-clause-counts : goal.returns-in_ok-push-in-LeftOfView-clause-counts
 returns-in_ok-push-in-LeftOfView-clause-counts c = λ i j column row.
@@ -24,7 +24,7 @@ returns-in_ok-push-in-LeftOfView-clause-counts c = λ i j column row.
     let xs = c.args.crossings.now.items in
     rw c.in_ok-push-in-LeftOfView.ensures.items
     (sum_by_push (λ (x : Crossing). cond {A = ℕ} (reaches i j x) 1 0) xs (crossing.Left c.in-LeftOfView.rows)
-    ∙ ap (λ (b : Bool). count_by (reaches i j) xs + cond {A = ℕ} b 1 0) (sym (left-share c.args.edge c.args.sides.1 i j c.in-LeftOfView.rows is.0 is.2 row)))
+    ∙ ap (λ (b : Bool). count_by (reaches i j) xs + cond {A = ℕ} b 1 0) (sym (left-share c.args.edge c.args.sides.height i j c.in-LeftOfView.rows is.0 is.2 row)))
 
 pub returns-in_ok-push-in-Walk-clause-counts : goal.returns-in_ok-push-in-Walk-clause-counts
 returns-in_ok-push-in-Walk-clause-counts c = λ i j column row.
@@ -34,7 +34,7 @@ returns-in_ok-push-in-Walk-clause-counts c = λ i j column row.
     ap (λ w. reaches i j (crossing.Walk w)) c.start-walk.ensures.walk in
     rw c.in_ok-push-in-Walk.ensures.items
     (sum_by_push (λ (x : Crossing). cond {A = ℕ} (reaches i j x) 1 0) xs (crossing.Walk c.start-walk.result)
-    ∙ ap (λ (b : Bool). count_by (reaches i j) xs + cond {A = ℕ} b 1 0) (reach ∙ sym (walk-share c.args.edge c.args.sides.1 i j c.in-Walk.rows is.0 row)))
+    ∙ ap (λ (b : Bool). count_by (reaches i j) xs + cond {A = ℕ} b 1 0) (reach ∙ sym (walk-share c.args.edge c.args.sides.height i j c.in-Walk.rows is.0 row)))
 
 pub returns-in-Drop-clause-work : goal.returns-in-Drop-clause-work
 returns-in-Drop-clause-work c = rw (← c.in-Drop.ensures.class)

@@ -1,4 +1,5 @@
 use Rattle.std.proofs.Common.{◌≡◌, ◌⊎◌, inl, inr, subst, Result, option_and_then}
+use Rattle.std.proofs.lemmas.Result.{err_from_is_err_and}
 use Rattle.maplex.specs.Token.{TokenValue}
 use Rattle.mapwords.specs.declared.role.Block.{Block}
 use Rattle.mapwords.specs.declared.role.Block.TheVariants as block
@@ -21,3 +22,8 @@ pub returns-in-Projection : goal.returns-in-Projection
 returns-in-Projection c =
     rw c.in-Keywords.is
     (skip-read c.in-Keywords.block c.args.self.now c.args.token.now _ c.in-Projection.is (c.skip.ensures c.args.self.now))
+
+pub returns-in_err-step-in-Values : goal.returns-in_err-step-in-Values
+returns-in_err-step-in-Values c =
+    let p = err_from_is_err_and c.from_residual-in_err-step-in-Values.result c.from_residual-in_err-step-in-Values.ensures.1 in
+    rw (c.in-Values.is, p.1, p.2) (c.in_err-step-in-Values.ensures c.in-Values.block c.args.self.now)
