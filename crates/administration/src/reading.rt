@@ -87,7 +87,8 @@ fn read_batch<I: Source>(alloc: Global, reader: &mut I, count: usize) -> Option<
 pub(crate) fn read_command<I: Source>(alloc: Global, reader: &mut I) -> Option<ReadCommand>
     ensures { MatchOption result
         ((bytes : List ℕ) × HasEnded (I.left reader.old) (I.left reader.new) (I.take_failed reader.new) bytes × (first_command bytes ≡ None))
-        (λ asked. (bytes : List ℕ) × (command : Command) × Consumes (I.left reader.old) (I.left reader.new) bytes × IsCommandOf bytes command × IsHeldOf command asked) }
+        (λ asked. (bytes : List ℕ) × (command : Command) × Consumes (I.left reader.old) (I.left reader.new) bytes × IsCommandOf bytes command
+        × IsHeldOf command asked) }
 {
     match read_line(reader)? {
         ClientLine::Batch(count) => read_batch(alloc, reader, count),

@@ -9,7 +9,6 @@ ghost use Rattle.administration.specs.declared.done.Done.{Done};
 use crate::done::{Done, send_line};
 use crate::reading::{ReadCommand, read_command};
 use mapshare::{Admin, Retried, Sharing, Submitted};
-use std::alloc::Global;
 use std::sync::Wait;
 use streams::{PutFailed, Sink, Source};
 
@@ -63,9 +62,8 @@ fn perform<S: Sharing, R: Wait>(rt: &R, admin: Admin<S>, asked: ReadCommand) -> 
 ///
 /// The error is that the writer failed, after the first bytes of a line: the command of that line is done all the same. It waits
 /// for the client, and for readers of the map that still read an older state.
-pub fn administer<S: Sharing, R: Wait, I: Source, O: Sink>(
+pub fn administer<S: Sharing, R: AllocGlobal + Wait, I: Source, O: Sink>(
     rt: &R,
-    alloc: Global,
     admin: Admin<S>,
     reader: &mut I,
     writer: &mut O,
@@ -79,7 +77,7 @@ pub fn administer<S: Sharing, R: Wait, I: Source, O: Sink>(
 {
     let mut admin = admin;
     for _ in rt.forever() {
-        let Some(asked) = read_command(alloc, reader) else {
+        let Some(asked) = read_command(rt.alloc(), reader) else {
             return (admin, Ok(()));
         };
         let (after, done) = perform(rt, admin, asked);

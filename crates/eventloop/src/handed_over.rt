@@ -83,7 +83,8 @@ impl<T> HandedOver<T> {
     /// The worker ends, in one way or the other. A worker that stops never goes back to finishing.
     pub fn end(&mut self, ending: Ending)
         ensures ending { self.new.ending ≡ after_ending self.old.ending ending }
-        ensures others { (self.new.transports ≡ self.old.transports) × (self.new.is_pressed ≡ self.old.is_pressed) × (self.new.is_serving ≡ self.old.is_serving) }
+        ensures others { (self.new.transports ≡ self.old.transports) × (self.new.is_pressed ≡ self.old.is_pressed)
+            × (self.new.is_serving ≡ self.old.is_serving) }
     {
         if self.ending != Ending::Stops {
             self.ending = ending;

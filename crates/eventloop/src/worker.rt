@@ -191,7 +191,8 @@ impl<A: Asks, T: Transport + EndsEarly + Drop, P: Poller<T>> Worker<A, T, P> {
     // answers.
     fn close_overdue(&mut self, slot: usize)
         ensures run { HasRunAt A.answers ⟦<T as Transport>⟧ self.old.now (state self.old) (state self.new) }
-        ensures in_time { IfSome (at_slot (connections self.new.table) slot) (λ connection. self.old.now < deadline (timeouts_of self.old.table) connection.phase) }
+        ensures in_time { IfSome (at_slot (connections self.new.table) slot)
+            (λ connection. self.old.now < deadline (timeouts_of self.old.table) connection.phase) }
         ensures others { OthersStay slot (connections self.old.table) (connections self.new.table) }
         ensures goes { Goes self.old.table self.new.table }
         ensures asks { self.new.asks ≡ self.old.asks }

@@ -120,7 +120,8 @@ impl<A: Asks + Drop, T: Transport + EndsEarly + Drop, P: Drop, W: Wakes + Drop> 
     /// Has each worker end, in one way or the other, waits until it has, and gives all back, if there is memory for them.
     pub fn end<R: Wait + Threads>(self, rt: &R, ending: Ending) -> Option<Vec<Worker<A, T, P>>>
         ensures served { IfSome result (λ workers. All (λ worker. HasBeen A.answers ⟦<T as Transport>⟧ worker.table worker.asks) workers.items) }
-        ensures times { (times : Timeouts) → BeganWith times self.threads.items → IfSome result (λ workers. All (λ worker. timeouts_of worker.table ≡ times) workers.items) }
+        ensures times { (times : Timeouts) → BeganWith times self.threads.items
+            → IfSome result (λ workers. All (λ worker. timeouts_of worker.table ≡ times) workers.items) }
     {
         let WorkerThreads {
             handovers,
@@ -181,7 +182,8 @@ where
     T: Transport + EndsEarly + Send + Drop + 'static,
     P: Poller<T> + Send + Drop + 'static,
     requires free { (slot : ℕ) → at_slot (connections worker.table) slot ≡ None }
-    ensures began { (times : Timeouts) → BeganWith times workers.old.threads.items → timeouts_of worker.table ≡ times → BeganWith times workers.new.threads.items }
+    ensures began { (times : Timeouts) → BeganWith times workers.old.threads.items → timeouts_of worker.table ≡ times
+        → BeganWith times workers.new.threads.items }
 {
     let Some(waker) = worker.waker() else {
         return Err(WorkerStartError);

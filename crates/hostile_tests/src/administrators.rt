@@ -15,7 +15,7 @@ use streams::Flagged;
 use test_tables::{TableFault, check_rows};
 
 // The lines that answer an administrator of a machine who sends these bytes.
-fn answered<S: Sharing, R: Wait>(
+fn answered<S: Sharing, R: AllocGlobal + Wait>(
     rt: &R,
     alloc: Global,
     machine: &Machine,
@@ -25,12 +25,12 @@ fn answered<S: Sharing, R: Wait>(
     requires history { blank.seen.book ≡ S.book }
     requires opening { machine.now ≡ S.opening }
 {
-    let Ok((admin, _readers)) = open::<S, R>(rt, alloc, blank, machine, 1) else {
+    let Ok((admin, _readers)) = open::<S, R>(rt, blank, machine, 1) else {
         return Err(AllocError);
     };
     let mut reader = Flagged::new(bytes);
     let mut writer = Flagged::new(Vec::new(alloc));
-    let (admin, served) = administer(rt, alloc, admin, &mut reader, &mut writer);
+    let (admin, served) = administer(rt, admin, &mut reader, &mut writer);
     admin.close(rt);
     match served {
         Ok(()) => Ok(writer.into_inner()),
@@ -52,7 +52,7 @@ fn add_line(line: &str, tally: &mut Tally) {
     }
 }
 
-fn add_answers<R: Wait>(
+fn add_answers<R: AllocGlobal + Wait>(
     rt: &R,
     alloc: Global,
     bytes: &[u8],
@@ -66,7 +66,11 @@ fn add_answers<R: Wait>(
     Ok(())
 }
 
-fn result_of_row<R: Wait>(rt: &R, alloc: Global, way: &str) -> Result<String, AllocError> {
+fn result_of_row<R: AllocGlobal + Wait>(
+    rt: &R,
+    alloc: Global,
+    way: &str,
+) -> Result<String, AllocError> {
     tally_of(alloc, ADMINISTRATOR, way, |alloc, bytes, tally| {
         add_answers(rt, alloc, bytes, tally)
     })

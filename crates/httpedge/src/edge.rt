@@ -72,7 +72,8 @@ fn ask<A: Asks>(asks: &mut A, query: &[u8]) -> Outcome
 /// The response to a decision.
 pub(crate) fn outcome<A: Asks>(conn: &Conn, decision: Decision, asks: &mut A) -> Outcome
     requires decided { step_of conn.now.progress ≡ Some decision }
-    ensures { (closing : Bool) → IsReply A.answers closing (decision_meaning decision (target_of conn.now.progress)) asks.old (response result closing) asks.new }
+    ensures { (closing : Bool)
+        → IsReply A.answers closing (decision_meaning decision (target_of conn.now.progress)) asks.old (response result closing) asks.new }
 {
     match decision {
         Decision::Ask => ask(asks, conn.query()),
@@ -177,9 +178,12 @@ pub fn exchange<R: Source, W: Sink, A: Asks>(
     ensures kept_up { IfErr result (λ fault. is_read fault ≡ true → (read : List ℕ) × Consumes (R.left reader.old) (R.left reader.new) read
         × HasKeptUp A.answers ⟦<W as Sink>⟧ read (record { asker = asks.old; asks = asks.new; before = writer.old; after = writer.new })) }
     ensures written { IfErr result (λ fault. W.taken writer.new ≡ W.taken writer.old + written_of fault) }
-    ensures read_flag { MatchResult result (λ _. R.take_failed reader.new ≡ R.take_failed reader.old) (λ fault. R.take_failed reader.new ≡ (is_read fault || R.take_failed reader.old)) }
-    ensures write_flag { MatchResult result (λ _. W.put_failed writer.new ≡ W.put_failed writer.old) (λ fault. W.put_failed writer.new ≡ (not (is_read fault) || W.put_failed writer.old)) }
-    ensures reads { MatchResult result (λ _. ReadsToPiece R.left R.took reader.old reader.new) (λ fault. ReadsToFault fault R.left R.took reader.old reader.new) }
+    ensures read_flag { MatchResult result (λ _. R.take_failed reader.new ≡ R.take_failed reader.old)
+        (λ fault. R.take_failed reader.new ≡ (is_read fault || R.take_failed reader.old)) }
+    ensures write_flag { MatchResult result (λ _. W.put_failed writer.new ≡ W.put_failed writer.old)
+        (λ fault. W.put_failed writer.new ≡ (not (is_read fault) || W.put_failed writer.old)) }
+    ensures reads { MatchResult result (λ _. ReadsToPiece R.left R.took reader.old reader.new)
+        (λ fault. ReadsToFault fault R.left R.took reader.old reader.new) }
     ensures most { R.reads reader.new ≤ R.reads reader.old + 16384000 }
 {
     let before = writer.taken();

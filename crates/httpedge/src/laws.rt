@@ -52,7 +52,8 @@ pub fn session_answers()
     ensures starts { HasRespondedWith [] [] [] new_session }
     ensures done { (s : SessionState) (read written : List ℕ) (queries : List QueryOutcome) → is_done s ≡ true → HasRespondedWith read queries written s
         → IsExchange says_as_listed REQUESTS read queries written [] }
-    ensures begun { (s : SessionState) (read written more : List ℕ) (queries : List QueryOutcome) → is_reading s.stage ≡ true → HasRespondedWith read queries written s
+    ensures begun { (s : SessionState) (read written more : List ℕ) (queries : List QueryOutcome) → is_reading s.stage ≡ true
+        → HasRespondedWith read queries written s
         → IsBegun says_as_listed REQUESTS (read ++ more) queries (written ++ s.outgoing) [] }
     ensures closed { (s : SessionState) (read written more : List ℕ) (queries : List QueryOutcome) → s.stage ≡ Closed → HasRespondedWith read queries written s
         → IsExchange says_as_listed REQUESTS (read ++ more) queries (written ++ s.outgoing) [] }

@@ -113,7 +113,8 @@ impl Session {
         ensures goes_on { self.new.stage ≡ Ended → self.old.stage ≡ Ended }
         ensures responded { (read written : List ℕ) (first : A) → HasResponded A.answers read first written self.old asks.old
             → HasResponded A.answers (read ++ take result piece.now) first written self.new asks.new }
-        ensures said { (queries : List QueryOutcome) × HasAsked A.answers asks.old queries asks.new × ((read written : List ℕ) (earlier : List QueryOutcome) → HasRespondedWith read earlier written self.old
+        ensures said { (queries : List QueryOutcome) × HasAsked A.answers asks.old queries asks.new
+            × ((read written : List ℕ) (earlier : List QueryOutcome) → HasRespondedWith read earlier written self.old
             → HasRespondedWith (read ++ take result piece.now) (earlier ++ queries) written self.new) }
     {
         if !self.wants_more() {
@@ -135,7 +136,8 @@ impl Session {
         requires wanted { wants self.old ≡ true }
         ensures ended { self.new.stage ≡ Ended }
         ensures named { HasNamed (came_of self.old.course.progress) self.new }
-        ensures said { (read written : List ℕ) (queries : List QueryOutcome) → HasRespondedWith read queries written self.old → HasRespondedWith read queries written self.new }
+        ensures said { (read written : List ℕ) (queries : List QueryOutcome) → HasRespondedWith read queries written self.old
+            → HasRespondedWith read queries written self.new }
     {
         self.conn.next();
         self.outgoing = end_reply(&mut self.conn);

@@ -53,6 +53,12 @@ pub enum Retried<S: Sharing> {
     Held,
 }
 
+/// A history that has no batch yet, and its prefix, which is empty.
+pub(crate) struct UnwrittenHistory<S: Sharing> {
+    pub history: History<S>,
+    pub prefix: Prefix<S>,
+}
+
 /// The administrator of a shared map. Contracts see it as the batches that are published and pending.
 pub struct Admin<S: Sharing>
 where
@@ -172,16 +178,16 @@ impl<S: Sharing> Admin<S> {
     pub(crate) fn new(
         alloc: Global,
         writer: MapWriter<S>,
-        history: History<S>,
         checked: Machine,
-        prefix: Prefix<S>,
+        unwritten: UnwrittenHistory<S>,
     ) -> Self
         requires machine { checked ≡ S.opening }
-        requires empty { prefix ≡ [] }
+        requires empty { unwritten.prefix ≡ [] }
         requires shown { writer.desk.shown.value.prefix ≡ [] }
         requires none_left { drop writer.behind writer.log.items ≡ [] }
         ensures { result ≡ record { published = []; pending = [] } }
     {
+        let UnwrittenHistory { history, prefix } = unwritten;
         Admin {
             writer,
             history,
@@ -276,26 +282,15 @@ impl<S: Sharing> Admin<S> {
             last,
         } = self;
         let (writer, done) = show_waiting(rt, writer, &mut queue, &last);
-        if !done {
-            let admin = Admin {
-                writer,
-                history,
-                queue,
-                checked,
-                published,
-                last,
-            };
-            return (admin, false);
-        }
         let admin = Admin {
             writer,
             history,
             queue,
             checked,
-            published: last.copy(),
+            published: if done { last.copy() } else { published },
             last,
         };
-        (admin, true)
+        (admin, done)
     }
 
     /// Submits a batch: it is checked in the state after all batches that were accepted. One without a fault is accepted, and

@@ -2,7 +2,7 @@ ghost use Rattle.std.specs.Prelude.{◌≡◌, ◌<◌, ◌≤◌, ◌⊎◌, �
 ghost use Rattle.mapshare.specs.Reader.{free};
 ghost use Rattle.mapshare.specs.declared.opening.TheConstants.{MAX_READERS};
 
-use crate::admin::Admin;
+use crate::admin::{Admin, UnwrittenHistory};
 use crate::reader::Reader;
 use crate::replica::Replica;
 use crate::rule::{MapWriter, Sharing};
@@ -75,9 +75,8 @@ fn readers_of<S: Sharing>(
 
 /// Shares a map: it gives the administrator and so many readers. The caller names the sharing, by `S`, and hands over a
 /// history of its own for it. The machine is copied three times; the copies share its features.
-pub fn open<S: Sharing, R: Wait>(
+pub fn open<S: Sharing, R: AllocGlobal + Wait>(
     rt: &R,
-    alloc: Global,
     blank: Blank,
     machine: &Machine,
     count: usize,
@@ -89,6 +88,7 @@ pub fn open<S: Sharing, R: Wait>(
     ensures known { IfOk result (λ r. All (λ reader. reader ≡ free []) r.1.items) }
     ensures count { IsErrOf result ShareFault.Count ↔ ((count ≡ 0) ⊎ (MAX_READERS < count)) }
 {
+    let alloc = rt.alloc();
     let (history, prefix) = blank.named::<S>();
     if count == 0 || count > MAX_READERS {
         return Err(ShareFault::Count);
@@ -100,7 +100,10 @@ pub fn open<S: Sharing, R: Wait>(
         return Err(ShareFault::NoMemory);
     };
     match readers_of(alloc, &writer, &prefix, count) {
-        Ok(readers) => Ok((Admin::new(alloc, writer, history, checked, prefix), readers)),
+        Ok(readers) => {
+            let unwritten = UnwrittenHistory { history, prefix };
+            Ok((Admin::new(alloc, writer, checked, unwritten), readers))
+        }
         Err(_) => {
             let _edition = writer.take(rt);
             Err(ShareFault::NoMemory)

@@ -150,7 +150,9 @@ impl<S: Sharing> Reader<S> {
     /// on. The copies keep it true that they begin with those of earlier entries. So they are fewer than the reader
     /// knows only where it learned of more by a receipt.
     pub fn enter(&mut self) -> Result<Entered<'_, S>, Closed>
-        ensures* closed { sem 𝓛 (RestsIfErr (reader_row S.row (record { opening = S.opening }) (record { book = S.book })) self.entry (λ e. e.home.ghost_name) result (λ n. n ≡ self.old)) }
+        ensures* closed { sem 𝓛
+            (RestsIfErr (reader_row S.row (record { opening = S.opening }) (record { book = S.book })) self.entry (λ e. e.home.ghost_name) result
+            (λ n. n ≡ self.old)) }
         ensures same_reference { IfOk result (λ e. e.home.ghost_name ≡ self.entry.ghost_name) }
         ensures known { IfOk result (λ e. IsPrefix self.old.known e.shown) }
         ensures knows { IfOk result (λ e. e.home.now ≡ entered e.shown) }

@@ -40,15 +40,8 @@ fn report_failure<E: Sink>(failure: Failure, errors: &mut E)
         Failure::ListenFailed { port, cause } => {
             let mut digits = Buffer::new();
             let port = digits.format(port).as_bytes();
-            report(
-                errors,
-                &[
-                    b"error: port ",
-                    port,
-                    b" of 127.0.0.1",
-                    cause_message(cause),
-                ],
-            )
+            let cause = cause_message(cause);
+            report(errors, &[b"error: port ", port, b" of 127.0.0.1", cause])
         }
         Failure::SocketFailed => report(
             errors,

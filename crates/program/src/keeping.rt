@@ -8,7 +8,7 @@ ghost use Rattle.journal.specs.Fingerprint.{file_message};
 ghost use Rattle.journalfile.specs.Settled.{GarblesNoRecord};
 ghost use Rattle.subcommands.specs.Mapfiles.{TouchesNeither};
 ghost use Rattle.subcommands.specs.Session.{opened};
-ghost use Rattle.program.specs.Journals.{IsOpened, IsUnopened, ReportsCut, ReportsEnd, cut_line, failure_of, fault_of, fault_message, given_message, is_unopened, journal_fault, journal_view, log_message, map_fingerprint, number_text};
+ghost use Rattle.program.specs.Journals.{IsOpened, IsUnopened, ReportsCut, ReportsEnd, cut_line, failure_of, fault_message, given_message, is_unopened, journal_fault, journal_view, log_message, map_fingerprint, number_text};
 
 use crate::host::{Files, Host, OpenFault};
 use console::{Failure, Writes, report};
@@ -199,16 +199,21 @@ fn header_of(alloc: Global, fingerprint: &[u8; 32]) -> Result<Vec<u8>, AllocErro
 }
 
 // Why a journal isn't opened, by the fault of its recovery.
-fn fault_of<F: Drop>(fault: RecoverFault<F>) -> JournalFault
-    ensures { result ≡ fault_of fault }
-{
-    match fault {
-        RecoverFault::Header(HeaderFault::NotAJournal) => JournalFault::NotAJournal,
-        RecoverFault::Header(HeaderFault::OtherMap) => JournalFault::OtherMap,
-        RecoverFault::Damaged(number) => JournalFault::Damaged(number),
-        RecoverFault::Refused(number) => JournalFault::Refused(number),
-        RecoverFault::NoMemory => JournalFault::Log(OpenFault::NoMemory),
-        RecoverFault::Failed(_) => JournalFault::Log(OpenFault::Failed),
+impl<F: Drop> From<RecoverFault<F>> for JournalFault {
+    ghost use Rattle.std.specs.Prelude.{◌≡◌};
+    ghost use Rattle.program.specs.Journals.{fault_of};
+
+    ghost from_gives = { λ fault why. why ≡ fault_of fault };
+
+    fn from(fault: RecoverFault<F>) -> JournalFault {
+        match fault {
+            RecoverFault::Header(HeaderFault::NotAJournal) => JournalFault::NotAJournal,
+            RecoverFault::Header(HeaderFault::OtherMap) => JournalFault::OtherMap,
+            RecoverFault::Damaged(number) => JournalFault::Damaged(number),
+            RecoverFault::Refused(number) => JournalFault::Refused(number),
+            RecoverFault::NoMemory => JournalFault::Log(OpenFault::NoMemory),
+            RecoverFault::Failed(_) => JournalFault::Log(OpenFault::Failed),
+        }
     }
 }
 
@@ -278,27 +283,22 @@ pub(crate) fn open_journal<H: Host>(
         (journal_view H.journal ⟦<H::Log as Log>⟧ place.entry.host.now) place.entry.path.now fingerprint (opened map) fault) }
 {
     let mut log = log_of(alloc, place.host, place.path, &fingerprint)?;
-    let skipped = match read_skipped(alloc, &fingerprint, &mut log) {
-        Ok(skipped) => skipped,
-        Err(fault) => return Err(fault_of(fault)),
-    };
+    let skipped = read_skipped(alloc, &fingerprint, &mut log)?;
     let mut machine = machine_at(alloc, map, skipped)?;
     let name = JournalName {
         fingerprint,
         skipped,
     };
-    match recover(alloc, &name, &mut log, &mut machine) {
-        Ok(Recovered { count, length, cut }) => Ok(OpenedJournal {
-            machine,
-            journal: Journal {
-                alloc,
-                log,
-                name,
-                count,
-                length: length as u64,
-            },
-            cut,
-        }),
-        Err(fault) => Err(fault_of(fault)),
-    }
+    let Recovered { count, length, cut } = recover(alloc, &name, &mut log, &mut machine)?;
+    Ok(OpenedJournal {
+        machine,
+        journal: Journal {
+            alloc,
+            log,
+            name,
+            count,
+            length: length as u64,
+        },
+        cut,
+    })
 }

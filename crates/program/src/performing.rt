@@ -1,4 +1,4 @@
-ghost use Rattle.std.specs.Prelude.{◌≡◌, ◌≢◌, ℕ, List, option_map};
+ghost use Rattle.std.specs.Prelude.{◌≡◌, ◌≢◌, ℕ, List, [], option_map};
 ghost use Rattle.commandline.specs.declared.subcommand.Command.TheVariants.{Session};
 ghost use Rattle.console.specs.Console.{Leaves};
 ghost use Rattle.program.specs.Hosts.{gives_in, left_of};
@@ -7,6 +7,7 @@ ghost use Rattle.program.specs.Performing.{Left, host_view, Performs, ServesMap,
 ghost use Rattle.subcommands.specs.Folder.{IsParent};
 ghost use Rattle.subcommands.specs.Mapfiles.{ChecksTo, RunsTo};
 ghost use Rattle.subcommands.specs.Reports.{ReadFile};
+ghost use Rattle.subcommands.specs.Session.{PlaysTo};
 ghost use Rattle.subcommands.specs.declared.unread.UnreadCause.{UnreadCause};
 
 use crate::ending::Ending;
@@ -20,6 +21,13 @@ use journalfile::Log;
 use network::{Network, Port, Runtime};
 use streams::{Flagged, Sink, Source};
 use subcommands::{Job, NamedFile, ReadMap, check, read_map, run, session};
+
+// The mapfile of a map, and the script that is to be played on it.
+#[derive(Clone, Copy)]
+struct ScriptedMap<'a> {
+    file: &'a str,
+    script: &'a str,
+}
 
 // How a map is to be served, and the path of its journal, if batches are to be kept.
 #[derive(Clone, Copy)]
@@ -44,6 +52,19 @@ fn named_file<'a, H: Files>(host: &'a H, path: &'a str) -> NamedFile<'a, Flagged
 }
 
 impl<R: Runtime, H: Host> Program<'_, R, H> {
+    // Plays a session, whose mapfiles have the files of the current folder.
+    fn session<I: Source, O: Sink, E: Sink>(
+        &self,
+        console: &mut Console<I, O, E>,
+    ) -> Result<(), Failure>
+        ensures plays { PlaysTo (gives_in (H.Files.file self.now.host.now) []) result
+            (⟦<Console<I, O, E> as Terminal>⟧.streams console.old) (⟦<Console<I, O, E> as Terminal>⟧.streams console.new) }
+        ensures leaves { Leaves result (⟦<Console<I, O, E> as Terminal>⟧.streams console.old) (⟦<Console<I, O, E> as Terminal>⟧.streams console.new) }
+    {
+        let folder = HostFolder::current(self.host);
+        session(self.rt.alloc(), &folder, console)
+    }
+
     // Checks a mapfile.
     fn check<I: Source, O: Sink, E: Sink>(
         &self,
@@ -70,32 +91,31 @@ impl<R: Runtime, H: Host> Program<'_, R, H> {
     // Plays a script on the map of a mapfile.
     fn run<I: Source, O: Sink, E: Sink>(
         &self,
-        file: &str,
-        script: &str,
+        scripted: ScriptedMap<'_>,
         explains: bool,
         console: &mut Console<I, O, E>,
     ) -> Result<(), Failure>
-        ensures runs { (parent : List ℕ) × IsParent file.now parent × (after : Left) × (script_after : Left) × (cause : UnreadCause)
+        ensures runs { (parent : List ℕ) × IsParent scripted.entry.file.now parent × (after : Left) × (script_after : Left) × (cause : UnreadCause)
             × (script_cause : UnreadCause)
-            × RunsTo (gives_in (H.Files.file self.now.host.now) parent) explains result (record { name = file.now; cause = cause })
-            (record { name = script.now; cause = script_cause })
+            × RunsTo (gives_in (H.Files.file self.now.host.now) parent) explains result (record { name = scripted.entry.file.now; cause = cause })
+            (record { name = scripted.entry.script.now; cause = script_cause })
             (record {
-              mapfile_before = H.Files.file self.now.host.now file.now;
+              mapfile_before = H.Files.file self.now.host.now scripted.entry.file.now;
               mapfile_after = after;
-              script_before = H.Files.file self.now.host.now script.now;
+              script_before = H.Files.file self.now.host.now scripted.entry.script.now;
               script_after = script_after;
             })
             (⟦<Console<I, O, E> as Terminal>⟧.streams console.old) (⟦<Console<I, O, E> as Terminal>⟧.streams console.new) }
         ensures input { console.new.input ≡ console.old.input }
         ensures leaves { Leaves result (⟦<Console<I, O, E> as Terminal>⟧.streams console.old) (⟦<Console<I, O, E> as Terminal>⟧.streams console.new) }
     {
-        let folder = HostFolder::of(self.host, file);
+        let folder = HostFolder::of(self.host, scripted.file);
         let mut job = Job {
             folder: &folder,
-            mapfile: named_file(self.host, file),
+            mapfile: named_file(self.host, scripted.file),
             explains,
         };
-        let mut commands = named_file(self.host, script);
+        let mut commands = named_file(self.host, scripted.script);
         run(self.rt.alloc(), &mut job, &mut commands, console)
     }
 
@@ -175,16 +195,13 @@ impl<R: Runtime, H: Host> Program<'_, R, H> {
         ensures leaves { Leaves result.outcome (⟦<Console<I, O, E> as Terminal>⟧.streams console.old) (⟦<Console<I, O, E> as Terminal>⟧.streams console.new) }
     {
         match command {
-            Command::Session => {
-                let folder = HostFolder::current(self.host);
-                Ending::after(session(self.rt.alloc(), &folder, console))
-            }
+            Command::Session => Ending::after(self.session(console)),
             Command::Check { file, explains } => Ending::after(self.check(file, explains, console)),
             Command::Run {
                 file,
                 script,
                 explains,
-            } => Ending::after(self.run(file, script, explains, console)),
+            } => Ending::after(self.run(ScriptedMap { file, script }, explains, console)),
             Command::Serve {
                 file,
                 explains,

@@ -285,11 +285,7 @@ impl<R: Runtime, H: Host> Program<'_, R, H> {
         ensures leaves { LeavesOutput result.outcome (⟦<O as Writes>⟧.state console.old.output) (⟦<O as Writes>⟧.state console.new.output) }
         ensures reads { is_input_failed result.outcome ≡ false }
     {
-        let JournaledService {
-            service,
-            path,
-            explains,
-        } = journaled;
+        let JournaledService { service, path, .. } = journaled;
         let opened = match self.open_kept(read, path) {
             Ok(opened) => opened,
             Err(fault) => {
@@ -302,7 +298,7 @@ impl<R: Runtime, H: Host> Program<'_, R, H> {
             journal: keeper,
             cut,
         } = opened;
-        let tells = is_told(explains, service);
+        let tells = is_told(journaled.explains, service);
         report_cut(&mut console.errors, path, tells, cut);
         let kept = Kept { machine, keeper };
         let ending = self.serve_journal(kept, service, &mut console.output);

@@ -58,7 +58,7 @@ fn answer(rt: &HostRuntime, name: &str) -> io::Result<Option<String>> {
 }
 
 // Makes the call of this name. A call that waits for readers gets the handle to wait.
-fn play<R: Wait>(waits: &R, rt: &HostRuntime, name: &str) -> io::Result<()> {
+fn play<R: AllocGlobal + Wait>(waits: &R, rt: &HostRuntime, name: &str) -> io::Result<()> {
     println!(rt; "== {name}")?;
     match name {
         "append" => append_row(rt),

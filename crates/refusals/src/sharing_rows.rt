@@ -66,55 +66,71 @@ fn print_result<S: Sharing>(system: &HostRuntime, became: Became, readers: &mut 
     let _printed = println!(system; "{became:?}, readers see {sequence:?}");
 }
 
+// A machine that isn't shared yet, and the blank history of its sharing.
+struct Unshared<'a> {
+    blank: Blank,
+    machine: &'a Machine,
+}
+
+// A machine that is shared.
+struct Shared<S: Sharing> {
+    admin: Admin<S>,
+    readers: Vec<Reader<S>>,
+}
+
 // Submits a batch until it is published, three times at most. One that is held is tried again by `retry`.
 fn submit_often<S: Sharing, R: Wait>(
     rt: &R,
     system: &HostRuntime,
-    admin: Admin<S>,
-    readers: &mut Vec<Reader<S>>,
+    shared: Shared<S>,
     batches: [Vec<u8>; 2],
 ) -> Admin<S> {
+    let Shared { admin, mut readers } = shared;
     let [first, second] = batches;
     let (admin, became) = submit(rt, system, admin, first);
-    print_result(system, became, readers);
+    print_result(system, became, &mut readers);
     let (admin, became) = match became {
         Became::NoMemory => submit(rt, system, admin, second),
         _ => retry(rt, system, admin),
     };
-    print_result(system, became, readers);
+    print_result(system, became, &mut readers);
     let (admin, became) = retry(rt, system, admin);
-    print_result(system, became, readers);
+    print_result(system, became, &mut readers);
     admin
 }
 
 // Shares a machine and submits a batch, and returns whether it was shared.
-fn submit_shared<S: Sharing, R: Wait>(
+fn submit_shared<S: Sharing, R: AllocGlobal + Wait>(
     rt: &R,
     system: &HostRuntime,
-    blank: Blank,
-    machine: &Machine,
+    unshared: Unshared<'_>,
     batches: [Vec<u8>; 2],
 ) -> bool
-    requires history { blank.seen.book ≡ S.book }
-    requires opening { machine.now ≡ S.opening }
+    requires history { unshared.blank.seen.book ≡ S.book }
+    requires opening { unshared.machine.now ≡ S.opening }
 {
-    let Ok((admin, mut readers)) = open::<S, R>(rt, system.alloc(), blank, machine, 2) else {
+    let Unshared { blank, machine } = unshared;
+    let Ok((admin, readers)) = open::<S, R>(rt, blank, machine, 2) else {
         return false;
     };
-    let admin = submit_often(rt, system, admin, &mut readers, batches);
+    let admin = submit_often(rt, system, Shared { admin, readers }, batches);
     admin.close(rt);
     true
 }
 
 /// Submits a batch to a shared map.
-pub fn submit_row<R: Wait>(rt: &R, system: &HostRuntime) -> io::Result<()> {
+pub fn submit_row<R: AllocGlobal + Wait>(rt: &R, system: &HostRuntime) -> io::Result<()> {
     let alloc = system.alloc();
     let machine = plain_machine(alloc)?;
     let batches = [
         Vec::from_slice(alloc, BATCH)?,
         Vec::from_slice(alloc, BATCH)?,
     ];
-    let shared = submit_shared::<Brand, R>(rt, system, Blank::new(), &machine, batches);
+    let unshared = Unshared {
+        blank: Blank::new(),
+        machine: &machine,
+    };
+    let shared = submit_shared::<Brand, R>(rt, system, unshared, batches);
     println!(system; "shared {shared}")
 }
 
@@ -133,17 +149,17 @@ fn accept<S: Sharing>(system: &HostRuntime, admin: &mut Admin<S>, batches: &[Vec
 }
 
 // Shares a machine, accepts batches, once more those that weren't, and publishes them. It returns whether the machine was shared.
-fn accept_shared<S: Sharing, R: Wait>(
+fn accept_shared<S: Sharing, R: AllocGlobal + Wait>(
     rt: &R,
     system: &HostRuntime,
-    blank: Blank,
-    machine: &Machine,
+    unshared: Unshared<'_>,
     batches: &[Vec<u8>],
 ) -> bool
-    requires history { blank.seen.book ≡ S.book }
-    requires opening { machine.now ≡ S.opening }
+    requires history { unshared.blank.seen.book ≡ S.book }
+    requires opening { unshared.machine.now ≡ S.opening }
 {
-    let Ok((mut admin, mut readers)) = open::<S, R>(rt, system.alloc(), blank, machine, 2) else {
+    let Unshared { blank, machine } = unshared;
+    let Ok((mut admin, mut readers)) = open::<S, R>(rt, blank, machine, 2) else {
         return false;
     };
     let count = accept(system, &mut admin, batches);
@@ -155,24 +171,33 @@ fn accept_shared<S: Sharing, R: Wait>(
 }
 
 /// Has a shared map accept two batches.
-pub fn accept_row<R: Wait>(rt: &R, system: &HostRuntime) -> io::Result<()> {
+pub fn accept_row<R: AllocGlobal + Wait>(rt: &R, system: &HostRuntime) -> io::Result<()> {
     let alloc = system.alloc();
     let machine = plain_machine(alloc)?;
     let mut batches = Vec::new(alloc);
     for batch in [BATCH, b"".as_slice()] {
         batches.push(Vec::from_slice(alloc, batch)?)?;
     }
-    let shared = accept_shared::<Brand, R>(rt, system, Blank::new(), &machine, &batches);
+    let unshared = Unshared {
+        blank: Blank::new(),
+        machine: &machine,
+    };
+    let shared = accept_shared::<Brand, R>(rt, system, unshared, &batches);
     println!(system; "shared {shared}")
 }
 
 // Shares a machine, and returns whether that was done.
-fn share<S: Sharing, R: Wait>(rt: &R, system: &HostRuntime, blank: Blank, machine: &Machine) -> bool
+fn share<S: Sharing, R: AllocGlobal + Wait>(
+    rt: &R,
+    system: &HostRuntime,
+    blank: Blank,
+    machine: &Machine,
+) -> bool
     requires history { blank.seen.book ≡ S.book }
     requires opening { machine.now ≡ S.opening }
 {
     let _begun = begin(system);
-    let opened = open::<S, R>(rt, system.alloc(), blank, machine, 2);
+    let opened = open::<S, R>(rt, blank, machine, 2);
     let _ended = end(system);
     let Ok((admin, _readers)) = opened else {
         return false;
@@ -182,12 +207,12 @@ fn share<S: Sharing, R: Wait>(rt: &R, system: &HostRuntime, blank: Blank, machin
 }
 
 // Shares a machine under a name of its own.
-fn share_once<R: Wait>(rt: &R, system: &HostRuntime, machine: &Machine) -> bool {
+fn share_once<R: AllocGlobal + Wait>(rt: &R, system: &HostRuntime, machine: &Machine) -> bool {
     share::<Brand, R>(rt, system, Blank::new(), machine)
 }
 
 /// Shares a machine, and once more where that was refused.
-pub fn share_row<R: Wait>(rt: &R, system: &HostRuntime) -> io::Result<()> {
+pub fn share_row<R: AllocGlobal + Wait>(rt: &R, system: &HostRuntime) -> io::Result<()> {
     let machine = plain_machine(system.alloc())?;
     if share_once(rt, system, &machine) {
         return println!(system; "shared");
@@ -225,7 +250,7 @@ fn ask<S: Sharing>(system: &HostRuntime, readers: &mut Vec<Reader<S>>) -> Said {
 
 // Shares a machine and has a reader answer, and once more where memory was refused. It returns whether the machine was
 // shared.
-fn ask_shared<S: Sharing, R: Wait>(
+fn ask_shared<S: Sharing, R: AllocGlobal + Wait>(
     rt: &R,
     system: &HostRuntime,
     blank: Blank,
@@ -234,7 +259,7 @@ fn ask_shared<S: Sharing, R: Wait>(
     requires history { blank.seen.book ≡ S.book }
     requires opening { machine.now ≡ S.opening }
 {
-    let Ok((admin, mut readers)) = open::<S, R>(rt, system.alloc(), blank, machine, 2) else {
+    let Ok((admin, mut readers)) = open::<S, R>(rt, blank, machine, 2) else {
         return false;
     };
     if ask(system, &mut readers) == Said::NoMemory {
@@ -245,7 +270,7 @@ fn ask_shared<S: Sharing, R: Wait>(
 }
 
 /// Has a reader of a shared map answer.
-pub fn enter_row<R: Wait>(rt: &R, system: &HostRuntime) -> io::Result<()> {
+pub fn enter_row<R: AllocGlobal + Wait>(rt: &R, system: &HostRuntime) -> io::Result<()> {
     let machine = plain_machine(system.alloc())?;
     let shared = ask_shared::<Brand, R>(rt, system, Blank::new(), &machine);
     println!(system; "shared {shared}")

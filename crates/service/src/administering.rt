@@ -101,18 +101,18 @@ pub(crate) struct Administering<P, R> {
 
 // What follows on a call for a connection of an administrator.
 #[derive(Drop)]
-enum Came<C> {
+enum Came<C, R> {
     // A further call.
     Nothing,
     // No call: the service ends, no further connection is requested, or the port is given up.
     End,
-    // A connection, of this number.
-    Connection { connection: C, number: u64 },
+    // A connection.
+    Connection(Numbered<C, R>),
 }
 
-impl<P, R> Administering<P, R> {
+impl<P, R: Runtime> Administering<P, R> {
     // The next connection, by one call. The port isn't given up while clients are served.
-    fn next<C>(&mut self, acceptor: &mut Acceptor) -> Came<C>
+    fn next<C>(&mut self, acceptor: &mut Acceptor) -> Came<C, R>
     where
         P: Port<C>,
         C: Drop,
@@ -124,7 +124,11 @@ impl<P, R> Administering<P, R> {
         match acceptor.follow(Some(accepted)) {
             Plan::Wait => Came::Nothing,
             Plan::End => Came::End,
-            Plan::HandOver { connection, number } => Came::Connection { connection, number },
+            Plan::HandOver { connection, number } => Came::Connection(Numbered {
+                connection,
+                number,
+                log: queue_of(&self.log),
+            }),
             Plan::Press(press) => {
                 if press.forgo() && self.is_left.load(Ordering::SeqCst) {
                     Came::End
@@ -157,15 +161,10 @@ where
     let mut admin = admin;
     let mut acceptor = Acceptor::new();
     for _ in rt.forever() {
-        let (connection, number) = match side.next::<C>(&mut acceptor) {
+        let numbered = match side.next::<C>(&mut acceptor) {
             Came::Nothing => continue,
             Came::End => return (admin, Ok(())),
-            Came::Connection { connection, number } => (connection, number),
-        };
-        let numbered = Numbered {
-            connection,
-            number,
-            log: queue_of(&side.log),
+            Came::Connection(numbered) => numbered,
         };
         let (after, attempt) = administer_one(rt, admin, keeper, numbered);
         admin = after;

@@ -138,6 +138,16 @@ struct Watched<'a, R> {
     log: &'a Option<LogQueue<R>>,
 }
 
+impl<R: Runtime> Watched<'_, R> {
+    // What is noted of the connection of a number.
+    fn noted(&self, number: u64) -> Noted<R> {
+        Noted {
+            number,
+            queue: queue_of(self.log),
+        }
+    }
+}
+
 // The next connection of a port, by one call, unless too many wait for their workers.
 fn accept_next<A, C, T, P, Q, W, R>(
     rt: &R,
@@ -182,22 +192,17 @@ where
     ensures failed { IfErr result (λ failure. is_service_failure failure ≡ true) }
     ensures threads { workers.new.threads ≡ workers.old.threads }
 {
-    let Watched { is_stopped, log } = watched;
     let mut acceptor = Acceptor::new();
     for _ in rt.forever() {
         let accepted = accept_next(rt, port, workers);
-        if is_stopped.load(Ordering::SeqCst) {
+        if watched.is_stopped.load(Ordering::SeqCst) {
             return Ok(());
         }
         match acceptor.follow(accepted) {
             Plan::Wait => {}
             Plan::End => return Ok(()),
             Plan::HandOver { connection, number } => {
-                let noted = Noted {
-                    number,
-                    queue: queue_of(log),
-                };
-                hand_over::<S, R, C, T, Q, W>(rt, workers, connection, noted);
+                hand_over::<S, R, C, T, Q, W>(rt, workers, connection, watched.noted(number));
             }
             Plan::Press(press) => {
                 if press.obey(rt, workers) && !workers.is_serving(rt) {
@@ -275,6 +280,9 @@ pub(crate) struct ClientFlags<'a> {
     pub is_stopped: &'a AtomicBool,
 }
 
+/// The workers of clients, once they have ended.
+type EndedWorkers<S, R, T, Q> = Vec<Worker<Reader<S>, LoggedTransport<T, R>, LoggedPoller<Q>>>;
+
 /// Answers the connections of clients by a worker for each reader, up to the last. Those that came are answered to their end. Where the thread has to
 /// stop, those that are being answered get their answers, and the others are closed. It tells whether the workers were started, and gives them back:
 /// each answered its connections, from none on, as a reader of the map that was opened, within the times of the service's options.
@@ -283,10 +291,7 @@ pub(crate) fn serve_clients<S, R, C, T, P, Q>(
     readers: Vec<Reader<S>>,
     side: ClientSide<P, Q, R>,
     flags: ClientFlags<'_>,
-) -> (
-    Result<(), Failure>,
-    Option<Vec<Worker<Reader<S>, LoggedTransport<T, R>, LoggedPoller<Q>>>>,
-)
+) -> (Result<(), Failure>, Option<EndedWorkers<S, R, T, Q>>)
 where
     S: Sharing + Send + Sync + 'static,
     R: Runtime,
@@ -299,10 +304,6 @@ where
         worker.table worker.asks) workers.items) }
     ensures timed { IfSome result.1 (λ workers. All (λ worker. IsTimed side.service (times_of worker.table)) workers.items) }
 {
-    let ClientFlags {
-        starting,
-        is_stopped,
-    } = flags;
     let ClientSide {
         mut port,
         pollers,
@@ -310,21 +311,17 @@ where
         log,
     } = side;
     let started = start_workers::<S, R, T, Q>(rt, Seats { readers, pollers }, service);
-    starting.tell(rt, started.is_ok());
+    flags.starting.tell(rt, started.is_ok());
     let mut workers = match started {
         Ok(workers) => workers,
         Err(failure) => return (Err(failure), None),
     };
-    let served = accept_all::<S, R, C, T, P, Q, Q::Waker>(
-        rt,
-        &mut port,
-        &mut workers,
-        Watched {
-            is_stopped,
-            log: &log,
-        },
-    );
+    let watched = Watched {
+        is_stopped: flags.is_stopped,
+        log: &log,
+    };
+    let served = accept_all::<S, R, C, T, P, Q, Q::Waker>(rt, &mut port, &mut workers, watched);
     // from now on the system refuses further ones
     drop(port);
-    (served, workers.end(rt, ending_of(is_stopped)))
+    (served, workers.end(rt, ending_of(flags.is_stopped)))
 }

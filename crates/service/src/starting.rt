@@ -100,17 +100,14 @@ impl<P, R, W: Wakes + Drop> Started<P, R, W> {
 }
 
 // The ports of a service as its sides: its wakers, the side of clients with their log, and the connections of administrators.
-fn sides_of<C, P, W, Q, I, R>(
-    ports: Ports<P, W, Q, I>,
+fn sides_of<N: Network, R>(
+    ports: Ports<N::Port, N::Waker, N::Poller, N::Input>,
     log: Option<LogQueue<R>>,
 ) -> (
-    Wakers<W, I>,
-    ClientSide<P, Q, R>,
-    Accepting<PortFor<Administrators, P>>,
-)
-where
-    P: Port<C>,
-{
+    Wakers<N::Waker, N::Input>,
+    ClientSide<N::Port, N::Poller, R>,
+    Accepting<PortFor<Administrators, N::Port>>,
+) {
     let connections = ports.service.connections;
     let wakers = Wakers {
         administration: ports.waker,
@@ -159,10 +156,7 @@ where
     N: Network,
     ensures failed { IfErr result (λ failure. is_service_failure failure ≡ true) }
 {
-    let (wakers, side, port) = sides_of::<N::Connection, N::Port, N::Waker, N::Poller, N::Input, R>(
-        ports,
-        logs.clients,
-    );
+    let (wakers, side, port) = sides_of::<N, R>(ports, logs.clients);
     let signals = signals_of(rt, wakers)?;
     let clients = start_clients::<S, R, N::Connection, N::Transport, N::Port, N::Poller, N::Waker>(
         rt,

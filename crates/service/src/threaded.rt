@@ -86,6 +86,51 @@ struct Opened<S: Sharing, R, P, W, Q, I> {
     logs: Logs<R>,
 }
 
+impl<S: Sharing, R: Drop, P: Drop, W: Drop, Q: Drop, I: Drop> Opened<S, R, P, W, Q, I> {
+    // A map that is shared, with no log yet.
+    fn unlogged(admin: Admin<S>, readers: Vec<Reader<S>>, ports: Ports<P, W, Q, I>) -> Self
+        ensures { (result.admin ≡ admin) × (result.ports ≡ ports) }
+    {
+        Opened {
+            admin,
+            readers,
+            ports,
+            logs: Logs::none(),
+        }
+    }
+
+    // The same map with these logs.
+    fn logged(self, logs: Logs<R>) -> Self
+        ensures { (result.admin ≡ self.admin) × (result.ports ≡ self.ports) }
+    {
+        let Opened {
+            admin,
+            readers,
+            ports,
+            logs: _none,
+        } = self;
+        Opened {
+            admin,
+            readers,
+            ports,
+            logs,
+        }
+    }
+
+    // The administrator of a map that isn't served.
+    fn into_admin(self) -> Admin<S>
+        ensures { result ≡ self.admin }
+    {
+        let Opened {
+            admin,
+            readers: _readers,
+            ports: _ports,
+            logs: _logs,
+        } = self;
+        admin
+    }
+}
+
 // Starts the threads, writes the addresses of the ports, and serves.
 fn serve_both<S, R, N, K, O>(
     rt: &R,
@@ -150,23 +195,11 @@ where
     if !opened.ports.service.logs {
         return serve_both::<S, R, N, K, O>(rt, opened, keeper, output);
     }
-    let Opened {
-        admin,
-        readers,
-        ports,
-        logs: _,
-    } = opened;
     let (log, logs) = match start_log(rt) {
         Ok(started) => started,
-        Err(failure) => return (admin, Err(failure)),
+        Err(failure) => return (opened.into_admin(), Err(failure)),
     };
-    let logged = Opened {
-        admin,
-        readers,
-        ports,
-        logs,
-    };
-    let served = serve_both::<S, R, N, K, O>(rt, logged, keeper, output);
+    let served = serve_both::<S, R, N, K, O>(rt, opened.logged(logs), keeper, output);
     log.end(rt);
     served
 }
@@ -180,11 +213,16 @@ pub struct Kept<K> {
     pub keeper: K,
 }
 
+// A map that isn't shared yet: its machine and the keeper of its batches, and the history of what will be published, which is empty.
+struct UnsharedMap<K> {
+    kept: Kept<K>,
+    blank: Blank,
+}
+
 // Shares the map of a machine under the name S, and serves it.
 fn serve_named<S, R, N, K, O>(
     rt: &R,
-    blank: Blank,
-    kept: Kept<K>,
+    map: UnsharedMap<K>,
     ports: Ports<N::Port, N::Waker, N::Poller, N::Input>,
     output: &mut O,
 ) -> Served<N::Port, K>
@@ -194,32 +232,28 @@ where
     N: Network,
     K: Keeps + Drop,
     O: Sink,
-    requires history { blank.seen.book ≡ S.book }
-    requires opening { kept.machine ≡ S.opening }
-    requires ready { (batches : List (List ℕ)) × K.keeps kept.keeper batches }
-    ensures served { IsServiceOf S.opening kept.keeper ports.clients.port ports.administration.port ports.service result }
+    requires history { map.blank.seen.book ≡ S.book }
+    requires opening { map.kept.machine ≡ S.opening }
+    requires ready { (batches : List (List ℕ)) × K.keeps map.kept.keeper batches }
+    ensures served { IsServiceOf S.opening map.kept.keeper ports.clients.port ports.administration.port ports.service result }
     ensures announced { HasAnnounced (N.Port.address ports.clients.port) (N.Port.address ports.administration.port) result.outcome
         (⟦<O as Writes>⟧.state output.old) (⟦<O as Writes>⟧.state output.new) }
-    ensures kept { (batches : List (List ℕ)) → K.keeps kept.keeper batches → (result.outcome ≡ Err Failure.JournalFailed → ⊥)
+    ensures kept { (batches : List (List ℕ)) → K.keeps map.kept.keeper batches → (result.outcome ≡ Err Failure.JournalFailed → ⊥)
         → K.keeps result.last (batches ++ result.accepted) }
     ensures accepted { IsSome (after accepted S.opening result.accepted) }
 {
+    let UnsharedMap { kept, blank } = map;
     let Kept {
         machine,
         mut keeper,
     } = kept;
     let served = Served::begin(&machine, &keeper, &ports, blank.shown());
     let workers = usize::from(ports.service.workers);
-    match open::<S, R>(rt, rt.alloc(), blank, &machine, workers) {
+    match open::<S, R>(rt, blank, &machine, workers) {
         Ok((admin, readers)) => {
             // Its features would stay in memory when a batch has emptied their layer.
             drop(machine);
-            let opened = Opened {
-                admin,
-                readers,
-                ports,
-                logs: Logs::none(),
-            };
+            let opened = Opened::unlogged(admin, readers, ports);
             let (admin, outcome) = serve_logged::<S, R, N, K, O>(rt, opened, &mut keeper, output);
             let accepted = admin.all();
             admin.close(rt);
@@ -247,5 +281,9 @@ pub fn serve_by_threads<R: Runtime, N: Network, K: Keeps + Drop, O: Sink>(
         → K.keeps result.last (batches ++ result.accepted) }
     ensures accepted { IsSome (after accepted kept.machine result.accepted) }
 {
-    serve_named::<Brand, R, N, K, O>(rt, Blank::new(), kept, ports, output)
+    let map = UnsharedMap {
+        kept,
+        blank: Blank::new(),
+    };
+    serve_named::<Brand, R, N, K, O>(rt, map, ports, output)
 }

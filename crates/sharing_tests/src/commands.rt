@@ -36,15 +36,14 @@ fn pipe_of(
 }
 
 // Serves connections, one after the other.
-fn serve_pipes<S: Sharing, R: Wait>(
+fn serve_pipes<S: Sharing, R: AllocGlobal + Wait>(
     rt: &R,
-    alloc: Global,
     admin: Admin<S>,
     pipes: &mut Vec<Pipe>,
 ) -> Admin<S> {
     let mut admin = admin;
     for pipe in pipes.iter_mut() {
-        let (after, served) = administer(rt, alloc, admin, &mut pipe.reader, &mut pipe.writer);
+        let (after, served) = administer(rt, admin, &mut pipe.reader, &mut pipe.writer);
         admin = after;
         pipe.failed = served.is_err();
     }
@@ -52,7 +51,7 @@ fn serve_pipes<S: Sharing, R: Wait>(
 }
 
 // Shares a map, and serves connections. Returns whether the map was shared.
-fn share<S: Sharing, R: Wait>(
+fn share<S: Sharing, R: AllocGlobal + Wait>(
     rt: &R,
     alloc: Global,
     blank: Blank,
@@ -62,16 +61,16 @@ fn share<S: Sharing, R: Wait>(
     requires history { blank.seen.book ≡ S.book }
     requires opening { machine.now ≡ S.opening }
 {
-    let Ok((admin, _readers)) = open::<S, R>(rt, alloc, blank, machine, 1) else {
+    let Ok((admin, _readers)) = open::<S, R>(rt, blank, machine, 1) else {
         return false;
     };
-    let admin = serve_pipes(rt, alloc, admin, pipes);
+    let admin = serve_pipes(rt, admin, pipes);
     admin.close(rt);
     true
 }
 
 // The same with the map of a layer `a`, which is opened anew.
-fn administered<R: Wait>(
+fn administered<R: AllocGlobal + Wait>(
     rt: &R,
     alloc: Global,
     mut pipes: Vec<Pipe>,
@@ -121,7 +120,7 @@ fn pipes_of(alloc: Global, row: &str, at_once: usize) -> Result<Vec<Pipe>, Alloc
 }
 
 // The ends of the connections of a row whose bytes come so many at once.
-fn result_in_pieces<R: Wait>(
+fn result_in_pieces<R: AllocGlobal + Wait>(
     rt: &R,
     alloc: Global,
     row: &str,
@@ -132,7 +131,11 @@ fn result_in_pieces<R: Wait>(
 }
 
 // The same ends, if they are the same for pieces of each of some lengths.
-fn result_of_row<R: Wait>(rt: &R, alloc: Global, row: &str) -> Result<String, AllocError> {
+fn result_of_row<R: AllocGlobal + Wait>(
+    rt: &R,
+    alloc: Global,
+    row: &str,
+) -> Result<String, AllocError> {
     let whole = result_in_pieces(rt, alloc, row, 10_000)?;
     for at_once in [1, 2, 7] {
         let found = result_in_pieces(rt, alloc, row, at_once)?;
@@ -226,7 +229,7 @@ fn left_after(room: usize) -> usize {
 }
 
 // The end of it where the writer takes so many bytes, and then of an empty batch on a further connection.
-fn cut<R: Wait>(rt: &R, alloc: Global, room: usize) -> Result<String, AllocError> {
+fn cut<R: AllocGlobal + Wait>(rt: &R, alloc: Global, room: usize) -> Result<String, AllocError> {
     let mut pipes = Vec::new(alloc);
     pipes.push(pipe_of(alloc, SENT, 7, false, room)?)?;
     pipes.push(pipe_of(alloc, b"BATCH 0\n", 7, false, usize::MAX)?)?;
@@ -245,7 +248,11 @@ fn expected_cut(alloc: Global, room: usize) -> Result<String, AllocError> {
 }
 
 // The first number of bytes after which a failing writer doesn't end a connection as expected, up to this one.
-fn result_of_cuts<R: Wait>(rt: &R, alloc: Global, row: &str) -> Result<String, AllocError> {
+fn result_of_cuts<R: AllocGlobal + Wait>(
+    rt: &R,
+    alloc: Global,
+    row: &str,
+) -> Result<String, AllocError> {
     let last = row.parse().unwrap_or(0);
     for room in 0..=last {
         let found = cut(rt, alloc, room)?;
@@ -273,7 +280,11 @@ fn long(alloc: Global, line: &str, count: usize, rest: &str) -> Result<Vec<u8>, 
 }
 
 // The end of a batch: how many bytes it announces, and how many `x` come before a further command.
-fn result_of_large<R: Wait>(rt: &R, alloc: Global, row: &str) -> Result<String, AllocError> {
+fn result_of_large<R: AllocGlobal + Wait>(
+    rt: &R,
+    alloc: Global,
+    row: &str,
+) -> Result<String, AllocError> {
     let (announced, count) = row.split_once(' ').unwrap_or(("", ""));
     let line = format!(in alloc; "BATCH {announced}\n")?;
     let bytes = long(alloc, line.as_str(), count.parse().unwrap_or(0), "RETRY\n")?;

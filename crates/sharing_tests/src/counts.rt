@@ -11,9 +11,8 @@ use std::sync::Wait;
 use test_tables::{TableFault, check_rows};
 
 // How many readers share a map, if it is shared, where so many are requested.
-fn opened<S: Sharing, R: Wait>(
+fn opened<S: Sharing, R: AllocGlobal + Wait>(
     rt: &R,
-    alloc: Global,
     blank: Blank,
     machine: &Machine,
     count: usize,
@@ -21,7 +20,7 @@ fn opened<S: Sharing, R: Wait>(
     requires history { blank.seen.book ≡ S.book }
     requires opening { machine.now ≡ S.opening }
 {
-    match open::<S, R>(rt, alloc, blank, machine, count) {
+    match open::<S, R>(rt, blank, machine, count) {
         Ok((admin, readers)) => {
             let count = readers.len();
             admin.close(rt);
@@ -32,10 +31,14 @@ fn opened<S: Sharing, R: Wait>(
 }
 
 // How many readers a map has where so many are requested, or the error.
-fn result_of_count<R: Wait>(rt: &R, alloc: Global, row: &str) -> Result<String, AllocError> {
+fn result_of_count<R: AllocGlobal + Wait>(
+    rt: &R,
+    alloc: Global,
+    row: &str,
+) -> Result<String, AllocError> {
     let machine = machine(alloc)?;
     let count = row.parse().unwrap_or(99);
-    match opened::<Brand, R>(rt, alloc, Blank::new(), &machine, count) {
+    match opened::<Brand, R>(rt, Blank::new(), &machine, count) {
         Ok(count) => format!(in alloc; "{count}"),
         Err(fault) => format!(in alloc; "{fault}"),
     }
@@ -72,9 +75,8 @@ fn answered<S: Sharing>(reader: &mut Reader<S>) -> char {
 }
 
 // The answers of two readers at the opening, after a batch, of which the first learns, and after the end.
-fn switched<S: Sharing, R: Wait>(
+fn switched<S: Sharing, R: AllocGlobal + Wait>(
     rt: &R,
-    alloc: Global,
     blank: Blank,
     machine: &Machine,
     batch: Vec<u8>,
@@ -82,7 +84,7 @@ fn switched<S: Sharing, R: Wait>(
     requires history { blank.seen.book ≡ S.book }
     requires opening { machine.now ≡ S.opening }
 {
-    let (admin, mut readers) = open::<S, R>(rt, alloc, blank, machine, 2).ok()?;
+    let (admin, mut readers) = open::<S, R>(rt, blank, machine, 2).ok()?;
     let (Some(mut first), Some(mut second)) = (readers.pop(), readers.pop()) else {
         admin.close(rt);
         return None;
@@ -111,11 +113,15 @@ fn in_pairs(alloc: Global, [a, b, c, d, e, f]: [char; 6]) -> Result<String, Allo
 }
 
 // The answers in one text, for a map with the layer, where this is the line of the batch.
-fn result_of_switch<R: Wait>(rt: &R, alloc: Global, row: &str) -> Result<String, AllocError> {
+fn result_of_switch<R: AllocGlobal + Wait>(
+    rt: &R,
+    alloc: Global,
+    row: &str,
+) -> Result<String, AllocError> {
     let machine = machine(alloc)?;
     let mut batch = Vec::from_slice(alloc, row.as_bytes())?;
     batch.push(b'\n')?;
-    match switched::<Brand, R>(rt, alloc, Blank::new(), &machine, batch) {
+    match switched::<Brand, R>(rt, Blank::new(), &machine, batch) {
         Some(letters) => in_pairs(alloc, letters),
         None => String::from_str(alloc, "not shared"),
     }

@@ -80,7 +80,7 @@ fn serve<S: Sharing, R: AllocGlobal + Wait>(
     requires history { blank.seen.book ≡ S.book }
     requires opening { machine.now ≡ S.opening }
 {
-    let (admin, _readers) = open::<S, R>(rt, rt.alloc(), blank, machine, 1).ok()?;
+    let (admin, _readers) = open::<S, R>(rt, blank, machine, 1).ok()?;
     let (admin, served) = administer_kept(
         rt,
         admin,

@@ -58,7 +58,7 @@ where
     requires history { blank.seen.book ≡ S.book }
     requires opening { machine.now ≡ S.opening }
 {
-    match open::<S, R>(rt, rt.alloc(), blank, machine, 2) {
+    match open::<S, R>(rt, blank, machine, 2) {
         Ok((admin, readers)) => {
             let done = work(rt, readers, calls, gate);
             admin.close(rt);

@@ -34,22 +34,21 @@ fn learned<S: Sharing>(reader: &mut Reader<S>, submitted: Submitted<S>) -> u64 {
 }
 
 // What two readers see or learn, as sequences.
-fn play<S: Sharing, R: Wait>(
+fn play<S: Sharing, R: AllocGlobal + Wait>(
     rt: &R,
-    alloc: Global,
     blank: Blank,
     machine: &Machine,
 ) -> Option<[u64; 7]>
     requires history { blank.seen.book ≡ S.book }
     requires opening { machine.now ≡ S.opening }
 {
-    let (admin, mut readers) = open::<S, R>(rt, alloc, blank, machine, 2).ok()?;
+    let (admin, mut readers) = open::<S, R>(rt, blank, machine, 2).ok()?;
     let (Some(mut first), Some(mut second)) = (readers.pop(), readers.pop()) else {
         admin.close(rt);
         return None;
     };
     let opened = entered(&mut first);
-    let (admin, submitted) = admin.submit(rt, Vec::new(alloc));
+    let (admin, submitted) = admin.submit(rt, Vec::new(rt.alloc()));
     let receipt = learned(&mut first, submitted);
     let first_after = entered(&mut first);
     let (admin, retried) = admin.retry(rt);
@@ -77,7 +76,7 @@ fn play<S: Sharing, R: Wait>(
 fn readers_see_what_is_published(rt: HostRuntime) -> Result<(), Fail> {
     let alloc: Global = rt.alloc();
     let machine = Machine::open_at(alloc, Map::new(map_fields(alloc, Items::new(alloc))), 5)?;
-    let sequences = play::<Brand, _>(&rt, alloc, Blank::new(), &machine);
+    let sequences = play::<Brand, _>(&rt, Blank::new(), &machine);
     assert!(rt; sequences == Some([5, 6, 6, 1, 6, 99, 99]));
     Ok(())
 }

@@ -33,7 +33,8 @@ pub fn check<F: Folder, I: Source + HasCause, J: Source, O: Sink, E: Sink>(
     job: &mut Job<'_, F, I>,
     console: &mut Console<J, O, E>,
 ) -> Result<(), Failure>
-    ensures checks { ChecksTo (F.gives job.old.folder.now) job.old.explains result (record { name = job.old.mapfile.name.now; cause = I.cause job.new.mapfile.reader })
+    ensures checks { ChecksTo (F.gives job.old.folder.now) job.old.explains result
+        (record { name = job.old.mapfile.name.now; cause = I.cause job.new.mapfile.reader })
         (I.left job.old.mapfile.reader) (I.left job.new.mapfile.reader)
         (⟦<Console<J, O, E> as Terminal>⟧.streams console.old) (⟦<Console<J, O, E> as Terminal>⟧.streams console.new) }
     ensures input { console.new.input ≡ console.old.input }

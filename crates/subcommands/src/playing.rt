@@ -23,7 +23,8 @@ pub fn session<F: Folder, I: Source, O: Sink, E: Sink>(
     folder: &F,
     console: &mut Console<I, O, E>,
 ) -> Result<(), Failure>
-    ensures plays { PlaysTo (F.gives folder.now) result (⟦<Console<I, O, E> as Terminal>⟧.streams console.old) (⟦<Console<I, O, E> as Terminal>⟧.streams console.new) }
+    ensures plays { PlaysTo (F.gives folder.now) result (⟦<Console<I, O, E> as Terminal>⟧.streams console.old)
+        (⟦<Console<I, O, E> as Terminal>⟧.streams console.new) }
     ensures leaves { Leaves result (⟦<Console<I, O, E> as Terminal>⟧.streams console.old) (⟦<Console<I, O, E> as Terminal>⟧.streams console.new) }
 {
     let session = match read_all(alloc, &mut console.input) {
@@ -46,7 +47,8 @@ pub fn open_map<F: Folder, E: Sink>(
     ensures map { IfOk result (λ map. ComesTo (F.gives folder.now) mapfile.now (Ok map)) }
     ensures same { OnOk result (errors.new ≡ errors.old) }
     ensures neither { IfErr result TouchesNeither }
-    ensures without { IfErr result (λ failure. IsWithoutMap (F.gives folder.now) failure mapfile.now (⟦<E as Writes>⟧.state errors.old) (⟦<E as Writes>⟧.state errors.new)) }
+    ensures without { IfErr result
+        (λ failure. IsWithoutMap (F.gives folder.now) failure mapfile.now (⟦<E as Writes>⟧.state errors.old) (⟦<E as Writes>⟧.state errors.new)) }
 {
     match read_map_of(alloc, folder, false, mapfile) {
         Ok((map, _files)) => Ok(map),

@@ -97,7 +97,9 @@ pub fn read_file<I: Source + HasCause, E: Sink>(
     ensures bytes { IfOk result (λ bytes. HasReadFile (I.left file.old.reader) (I.left file.new.reader) bytes.items) }
     ensures name { file.new.name.now ≡ file.old.name.now }
     ensures same { OnOk result (errors.new ≡ errors.old) }
-    ensures unread { IfErr result (λ failure. IsUnread explains failure (record { name = file.old.name.now; cause = I.cause file.new.reader }) (⟦<E as Writes>⟧.state errors.old) (⟦<E as Writes>⟧.state errors.new)) }
+    ensures unread { IfErr result
+        (λ failure. IsUnread explains failure (record { name = file.old.name.now; cause = I.cause file.new.reader })
+        (⟦<E as Writes>⟧.state errors.old) (⟦<E as Writes>⟧.state errors.new)) }
     ensures neither { IfErr result TouchesNeither }
     ensures leaves { LeavesFile result (⟦<I as Reads>⟧.state file.old.reader) (⟦<I as Reads>⟧.state file.new.reader) }
 {
@@ -119,10 +121,14 @@ pub fn read_explained<F: Folder, I: Source + HasCause, E: Sink>(
     errors: &mut E,
 ) -> Result<ReadMap, Failure>
     ensures map { IfOk result (λ read. HasReadMap (F.gives job.old.folder.now) (I.left job.old.mapfile.reader) (I.left job.new.mapfile.reader) read.map) }
-    ensures mapfile { IfOk result (λ read. HasReadMapfile (F.gives job.old.folder.now) (I.left job.old.mapfile.reader) (I.left job.new.mapfile.reader) read.source.items read.files read.map) }
+    ensures mapfile { IfOk result
+        (λ read. HasReadMapfile (F.gives job.old.folder.now) (I.left job.old.mapfile.reader)
+        (I.left job.new.mapfile.reader) read.source.items read.files read.map) }
     ensures job { (job.new.mapfile.name.now ≡ job.old.mapfile.name.now) × (job.new.explains ≡ job.old.explains) }
     ensures same { OnOk result (errors.new ≡ errors.old) }
-    ensures without { IfErr result (λ failure. GivesNoMap (F.gives job.old.folder.now) job.old.explains failure (record { name = job.old.mapfile.name.now; cause = I.cause job.new.mapfile.reader })
+    ensures without { IfErr result
+        (λ failure. GivesNoMap (F.gives job.old.folder.now) job.old.explains failure
+        (record { name = job.old.mapfile.name.now; cause = I.cause job.new.mapfile.reader })
         (I.left job.old.mapfile.reader) (I.left job.new.mapfile.reader) (⟦<E as Writes>⟧.state errors.old) (⟦<E as Writes>⟧.state errors.new)) }
     ensures neither { IfErr result TouchesNeither }
     ensures leaves { LeavesFile result (⟦<I as Reads>⟧.state job.old.mapfile.reader) (⟦<I as Reads>⟧.state job.new.mapfile.reader) }
@@ -161,10 +167,15 @@ pub fn read_map<F: Folder, I: Source + HasCause, E: Sink>(
     errors: &mut E,
 ) -> Result<ReadMap, Failure>
     ensures map { IfOk result (λ read. HasReadMap (F.gives job.old.folder.now) (I.left job.old.mapfile.reader) (I.left job.new.mapfile.reader) read.map) }
-    ensures mapfile { IfOk result (λ read. HasReadMapfile (F.gives job.old.folder.now) (I.left job.old.mapfile.reader) (I.left job.new.mapfile.reader) read.source.items read.files read.map) }
-    ensures warnings { IfOk result (λ read. ReportsWarnings job.old.explains job.old.mapfile.name.now read.map (⟦<E as Writes>⟧.state errors.old) (⟦<E as Writes>⟧.state errors.new)) }
+    ensures mapfile { IfOk result
+        (λ read. HasReadMapfile (F.gives job.old.folder.now) (I.left job.old.mapfile.reader)
+        (I.left job.new.mapfile.reader) read.source.items read.files read.map) }
+    ensures warnings { IfOk result
+        (λ read. ReportsWarnings job.old.explains job.old.mapfile.name.now read.map (⟦<E as Writes>⟧.state errors.old) (⟦<E as Writes>⟧.state errors.new)) }
     ensures same { OnOk result (job.old.explains ≡ false → errors.new ≡ errors.old) }
-    ensures without { IfErr result (λ failure. GivesNoMap (F.gives job.old.folder.now) job.old.explains failure (record { name = job.old.mapfile.name.now; cause = I.cause job.new.mapfile.reader })
+    ensures without { IfErr result
+        (λ failure. GivesNoMap (F.gives job.old.folder.now) job.old.explains failure
+        (record { name = job.old.mapfile.name.now; cause = I.cause job.new.mapfile.reader })
         (I.left job.old.mapfile.reader) (I.left job.new.mapfile.reader) (⟦<E as Writes>⟧.state errors.old) (⟦<E as Writes>⟧.state errors.new)) }
     ensures neither { IfErr result TouchesNeither }
     ensures leaves { LeavesFile result (⟦<I as Reads>⟧.state job.old.mapfile.reader) (⟦<I as Reads>⟧.state job.new.mapfile.reader) }

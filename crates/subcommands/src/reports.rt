@@ -24,14 +24,16 @@ fn cause_message(cause: UnreadCause) -> &'static str
 
 // Reports a file that can't be read: its name, and on a second line its name and the message on the cause.
 fn report_with_cause<'a, E: Sink>(errors: &mut E, name: &'a [u8], message: &'a [u8])
-    ensures { IsReported (⟦<E as Writes>⟧.state errors.old) (⟦<E as Writes>⟧.state errors.new) (codes "fault file " ++ (name.now ++ (codes "\n" ++ (name.now ++ message.now)))) }
+    ensures { IsReported (⟦<E as Writes>⟧.state errors.old) (⟦<E as Writes>⟧.state errors.new)
+        (codes "fault file " ++ (name.now ++ (codes "\n" ++ (name.now ++ message.now)))) }
 {
     report(errors, &[b"fault file ", name, b"\n", name, message]);
 }
 
 /// Reports a file that can't be read: its name, and, where that is requested, the cause.
 pub fn report_file<E: Sink>(errors: &mut E, explains: bool, name: &str, cause: UnreadCause)
-    ensures { IsReported (⟦<E as Writes>⟧.state errors.old) (⟦<E as Writes>⟧.state errors.new) (file_fault explains (record { name = name.now; cause = cause })) }
+    ensures { IsReported (⟦<E as Writes>⟧.state errors.old) (⟦<E as Writes>⟧.state errors.new)
+        (file_fault explains (record { name = name.now; cause = cause })) }
 {
     if explains {
         report_with_cause(errors, name.as_bytes(), cause_message(cause).as_bytes());

@@ -74,7 +74,8 @@ impl<T: Transport + Drop> Slots<T> {
         ensures others { OthersStay slot self.old.items.items self.new.items.items }
         ensures nobody { IfNone result ((self.new.items.items ≡ self.old.items.items) × (asks.new ≡ asks.old)) }
         ensures empty { IfNone result (at_slot self.old.items.items slot ≡ None) }
-        ensures own { IfSome result (λ turned. HasTurn A.answers ⟦<T as Transport>⟧ conditions.may_ask conditions.now slot self.old.items.items asks.old self.new.items.items asks.new turned.next) }
+        ensures own { IfSome result
+            (λ turned. HasTurn A.answers ⟦<T as Transport>⟧ conditions.may_ask conditions.now slot self.old.items.items asks.old self.new.items.items asks.new turned.next) }
         ensures unasked { IfSome result (λ turned. turned.asked ≡ false → asks.new ≡ asks.old) }
     {
         if slot >= self.items.len() {
@@ -124,7 +125,8 @@ impl<T: Transport + Drop> Slots<T> {
 
     /// The phase of the connection at a slot, if there is one.
     pub fn phase(&self, slot: usize) -> Option<Phase>
-        ensures { MatchOption result (at_slot self.now.items.items slot ≡ None) (λ phase. IsSomeAnd (at_slot self.now.items.items slot) (λ connection. connection.phase ≡ phase)) }
+        ensures { MatchOption result (at_slot self.now.items.items slot ≡ None)
+            (λ phase. IsSomeAnd (at_slot self.now.items.items slot) (λ connection. connection.phase ≡ phase)) }
     {
         match self.items.get(slot) {
             Some(Some(connection)) => Some(connection.phase),

@@ -129,20 +129,29 @@ impl<T: Transport + Drop> ConnectionTable<T> {
 
     /// Makes the next turn: that of the slot that has waited longest. There is none where no slot has a turn.
     pub fn serve_next<A: Asks>(&mut self, asks: &mut A, now: u64) -> Option<Served>
-        ensures first { MatchOption result (ready_slots self.old ≡ []) (λ served. (rest : List ℕ) × (slots : List ℕ) × (ready_slots self.old ≡ served.slot ∷ rest) × (ready_slots self.new ≡ joins rest slots)) }
+        ensures first { MatchOption result (ready_slots self.old ≡ [])
+            (λ served. (rest : List ℕ) × (slots : List ℕ) × (ready_slots self.old ≡ served.slot ∷ rest) × (ready_slots self.new ≡ joins rest slots)) }
         ensures none { IfNone result ((connections self.new ≡ connections self.old) × (asks.new ≡ asks.old)) }
         ensures nobody { IfSome result (λ served. IfNone served.next ((connections self.new ≡ connections self.old) × (asks.new ≡ asks.old))) }
         ensures empty { IfSome result (λ served. IfNone served.next (at_slot (connections self.old) served.slot ≡ None)) }
-        ensures own { IfSome result (λ served. IfSome served.next (λ next. HasTurn A.answers ⟦<T as Transport>⟧ (has_room self.old) now served.slot (connections self.old) asks.old (connections self.new) asks.new next)) }
+        ensures own { IfSome result
+            (λ served. IfSome served.next
+            (λ next. HasTurn A.answers ⟦<T as Transport>⟧ (has_room self.old) now served.slot (connections self.old) asks.old
+            (connections self.new) asks.new next)) }
         ensures others { IfSome result (λ served. OthersStay served.slot (connections self.old) (connections self.new)) }
         ensures run { HasRun A.answers ⟦<T as Transport>⟧ (record { table = self.old; asks = asks.old }) (record { table = self.new; asks = asks.new }) }
-        ensures step { IfSome result (λ served. IsTurnOf A.answers ⟦<T as Transport>⟧ (record { table = self.old; asks = asks.old }) (record { slot = served.slot; next = served.next; now = now }) (record { table = self.new; asks = asks.new })) }
+        ensures step { IfSome result
+            (λ served. IsTurnOf A.answers ⟦<T as Transport>⟧ (record { table = self.old; asks = asks.old })
+            (record { slot = served.slot; next = served.next; now = now }) (record { table = self.new; asks = asks.new })) }
         ensures once { IfSome result (λ _. (queries : List QueryOutcome) × HasAsked A.answers asks.old queries asks.new) }
         ensures unasked { IfSome result (λ served. served.asked ≡ false → asks.new ≡ asks.old) }
         ensures turns { IfSome result (λ served. served.next ≡ Some Turn → has served.slot (ready_slots self.new) ≡ true) }
-        ensures waits { IfSome result (λ served. served.next ≡ Some Room → (has served.slot (ready_slots self.new) ≡ true) ⊎ (has served.slot (waiting_slots self.new) ≡ true)) }
+        ensures waits { IfSome result
+            (λ served. served.next ≡ Some Room → (has served.slot (ready_slots self.new) ≡ true) ⊎ (has served.slot (waiting_slots self.new) ≡ true)) }
         ensures keeps { KeepsWaiting self.old self.new }
-        ensures line { IfSome result (λ served. (settled : List ℕ) × (rest : List ℕ) × IsSettled served.slot served.next (waiting_slots self.old) settled × IsAdmitted (has_room self.new) rest settled (ready_slots self.new) (waiting_slots self.new)) }
+        ensures line { IfSome result
+            (λ served. (settled : List ℕ) × (rest : List ℕ) × IsSettled served.slot served.next (waiting_slots self.old) settled
+            × IsAdmitted (has_room self.new) rest settled (ready_slots self.new) (waiting_slots self.new)) }
     {
         let slot = self.ready.next()?;
         let may_ask = self.slots.owed < self.room as u128;
@@ -273,7 +282,8 @@ impl<T: Transport + Drop> ConnectionTable<T> {
     pub fn close_for_room(&mut self, now: u64) -> Option<Closed<T>>
         ensures no_room { IfSome result (λ _. has_room self.old ≡ false) }
         ensures wanted { IfSome result (λ _. waiting_slots self.old ≡ [] → ⊥) }
-        ensures none { IfNone result ((waiting_slots self.old ≡ []) ⊎ ((has_room self.old ≡ true) ⊎ NoneMay (pressure.Room now (timeouts_of self.old).rate) self.old)) }
+        ensures none { IfNone result
+            ((waiting_slots self.old ≡ []) ⊎ ((has_room self.old ≡ true) ⊎ NoneMay (pressure.Room now (timeouts_of self.old).rate) self.old)) }
         ensures first { IfSome result (λ closed. IsFirst (pressure.Room now (timeouts_of self.old).rate) self.old closed.slot) }
         ensures left { ClosedOrStayed result self.old self.new }
         ensures goes { Goes self.old self.new }

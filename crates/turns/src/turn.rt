@@ -123,7 +123,8 @@ fn take_bytes<A: Asks>(exchange: &mut BufferedSession, asks: &mut A)
     ensures all { wants exchange.old.session ≡ true → wants exchange.new.session ≡ true → exchange.new.buffer ≡ [] }
     ensures quiet { wants exchange.new.session ≡ true → asks.new ≡ asks.old }
     ensures said { (queries : List QueryOutcome) × HasAsked A.answers asks.old queries asks.new
-        × ((read written : List ℕ) (earlier : List QueryOutcome) → HasServed read earlier written exchange.old → HasServed read (earlier ++ queries) written exchange.new) }
+        × ((read written : List ℕ) (earlier : List QueryOutcome) → HasServed read earlier written exchange.old
+        → HasServed read (earlier ++ queries) written exchange.new) }
 {
     let count = exchange.session.feed(exchange.buffer.bytes(), asks);
     exchange.buffer.consume(count);
@@ -134,7 +135,8 @@ fn take_end(exchange: &mut BufferedSession)
     requires wanted { wants exchange.old.session ≡ true }
     requires empty { exchange.old.buffer ≡ [] }
     ensures ended { wants exchange.new.session ≡ false }
-    ensures said { (read written : List ℕ) (queries : List QueryOutcome) → HasServed read queries written exchange.old → HasServed read queries written exchange.new }
+    ensures said { (read written : List ℕ) (queries : List QueryOutcome) → HasServed read queries written exchange.old
+        → HasServed read queries written exchange.new }
 {
     exchange.session.end();
 }

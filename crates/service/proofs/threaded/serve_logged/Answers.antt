@@ -3,4 +3,8 @@ use Rattle.administration.proofs.KeptBatches.{same_kept}
 use Rattle.service.proofs.threaded.serve_logged.Goals as goal
 
 pub returns-in-Err-clause-kept : goal.returns-in-Err-clause-kept
-returns-in-Err-clause-kept g c kept was other = same_kept g.K.Keeps.keeps c.args.opened.admin c.args.opened.admin kept c.args.keeper.now refl was
+returns-in-Err-clause-kept g c kept was other =
+    rw c.into_admin.ensures (same_kept g.K.Keeps.keeps c.args.opened.admin c.args.opened.admin kept c.args.keeper.now refl was)
+
+pub returns-clause-kept : goal.returns-clause-kept
+returns-clause-kept g c kept was other = rw c.logged.ensures.0 at (c.serve_both-served.ensures.kept kept was other)

@@ -8,7 +8,7 @@ use Rattle.service.proofs.threaded.serve_named.Goals as goal
 pub returns-in-Ok-clause-kept : goal.returns-in-Ok-clause-kept
 returns-in-Ok-clause-kept g c batches was other =
     let (more, all, is) = c.serve_logged-admin.ensures.kept batches was (λ e. other (rw c.ended.ensures e)) in
-    let same = c.all-accepted.ensures.all ∙ (all ∙ ap (λ (b : Batches). all_of b ++ more) c.in-Ok.ensures.admin) in
+    let same = c.all-accepted.ensures.all ∙ (all ∙ ap (λ (b : Batches). all_of b ++ more) (c.unlogged-opened.ensures.0 ∙ c.in-Ok.ensures.admin)) in
     rw c.ended.ensures (subst (λ (l : List (List ℕ)). g.K.Keeps.keeps c.serve_logged-admin.new.keeper (batches ++ l)) (sym same) is)
 
 pub returns-in-Ok-clause-accepted : goal.returns-in-Ok-clause-accepted
