@@ -18,12 +18,6 @@ const SHOWN: [&str; 3] = [
 // The bytes of what is left, and those of it and of each batch that follows.
 const LENGTHS: [usize; 3] = [310, 357, 427];
 
-// How many bytes of what is left a tape takes: none, all but one of the header, the header, some records, all but the last byte, and all.
-const STOPS: [usize; 6] = [0, 57, 58, 200, 309, 310];
-
-// The same with the batches that follow.
-const LATER_STOPS: [usize; 7] = [310, 311, 356, 357, 400, 426, 427];
-
 // Whether a start on some bytes shows the one or the other.
 fn shows_one(alloc: Global, bytes: &[u8], shown: &[&str]) -> Result<bool, AllocError> {
     let found = shown_after(alloc, bytes)?;
@@ -81,7 +75,7 @@ fn outlive_a_compaction(alloc: Global, room: usize) -> Result<Option<Tape>, Allo
 #[test]
 fn a_compaction_is_outlived_where_it_stops(rt: HostRuntime) -> Result<(), Fail> {
     let alloc = rt.alloc();
-    for room in STOPS {
+    for room in 0..=LENGTHS[0] {
         let tape = outlive_a_compaction(alloc, room)?;
         assert!(rt; tape.is_some(), "room {room}");
     }
@@ -118,7 +112,7 @@ fn outlive_batches(alloc: Global, room: usize) -> Result<bool, AllocError> {
 #[test]
 fn batches_after_a_compaction_are_outlived_where_it_stops(rt: HostRuntime) -> Result<(), Fail> {
     let alloc = rt.alloc();
-    for room in LATER_STOPS {
+    for room in LENGTHS[0]..=LENGTHS[2] {
         let right = outlive_batches(alloc, room)?;
         assert!(rt; right, "room {room}");
     }
