@@ -15,7 +15,7 @@ Each line has what was tried, and what the other clients saw:
 - clients take every descriptor of the program. An administrator asks 20 times, each time on a connection of its own: each is to be
   answered, and then a client, for which another one gives way;
 - a service of 32 workers begins with little memory, 20 times with a little more: where it tells that it listens it is to answer, and
-  else to have told nothing and to end with 3;
+  else to have told nothing and to end with 3, where a thread can't be started, or 4, where there is no memory for what workers share;
 - the input ends with which a service ends, while an administrator sends RETRY twice a second, and while nobody reads the log. The
   program is to end within ten seconds, and the administrator to have an answer to each command that it sent before.
 
@@ -40,6 +40,8 @@ LAYER = f"LAYER NAME a TYPE POLYGON CLASS STYLE COLOR 10 20 30 END END {RING} EN
 DEAR = "LAYER NAME dear TYPE POLYGON CLASS STYLE COLOR 40 50 60 END END " + "FEATURE POINTS 0 0 4 0 4 4 0 4 END END " * 60 + "END"
 MAP = f"MAP {LAYER} {DEAR} END\n".encode()
 HALF = b"GET /wms HTTP/1.1\r\nHost: "
+# how a service ends that doesn't begin for want of memory
+WITHOUT_MEMORY = (3, 4)
 # a picture of 7,077,888 bytes, more than the system takes at once, and the bytes of it that a slow client takes a second
 SIDES, RATE = 1_536, 300_000
 
@@ -257,19 +259,23 @@ def try_descriptors(mapfile):
 
 
 def try_little_memory(mapfile):
-    served = unsaid = wrong = 0
+    served, unsaid, wrong = 0, 0, []
     for megabytes in range(10, 410, 20):
         limit = limited(resource.RLIMIT_AS, megabytes << 20)
-        with subprocess.Popen(called(mapfile, 32), stdout=subprocess.PIPE, stderr=subprocess.DEVNULL, preexec_fn=limit) as process:
+        with subprocess.Popen(called(mapfile, 32), stdout=subprocess.PIPE, stderr=subprocess.PIPE, preexec_fn=limit) as process:
             line = process.stdout.readline()
             if line:
                 is_answered = seconds_of(ports_of(line)[0]) is not None
                 process.kill()
-                served, wrong = served + is_answered, wrong + (not is_answered)
+                served += is_answered
+                wrong += [] if is_answered else [f"with {megabytes} MB it listened and didn't answer"]
             else:
                 status = process.wait(10)
-                unsaid, wrong = unsaid + (status == 3), wrong + (status != 3)
-    return said(wrong == 0 and served > 0 and unsaid > 0, f"with little memory {served} services listened and answered, {unsaid} ended with 3 and told nothing, {wrong} otherwise")
+                is_named = status in WITHOUT_MEMORY
+                unsaid += is_named
+                wrong += [] if is_named else [f"with {megabytes} MB it ended with {status}, {process.stderr.read(200)}"]
+    told = f"with little memory {served} services listened and answered, {unsaid} ended with 3 or 4 and told nothing, {len(wrong)} otherwise"
+    return said(not wrong and served > 0 and unsaid > 0, "; ".join([told, *wrong]))
 
 
 def try_end(mapfile):
