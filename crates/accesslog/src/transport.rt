@@ -38,7 +38,8 @@ impl<T, R> LoggedTransport<T, R> {
     /// The transport of the connection of a number, with the queue of the log, if there is one.
     pub fn new(alloc: Global, inner: T, connection: u64, queue: Option<LogQueue<R>>) -> Self
         ensures inner { result.inner ≡ inner }
-        ensures numbered { MatchOption queue (result.noted ≡ None) (λ _. IfSome result.noted (λ noted. noted.«record».connection ≡ connection)) }
+        ensures numbered { MatchOption queue (result.noted ≡ None)
+            (λ _. IfSome result.noted (λ noted. noted.«record».connection ≡ connection)) }
     {
         let noted = match queue {
             Some(queue) => Some(AnswerLog {

@@ -31,15 +31,18 @@ pub fn serve_connection<R: Source, W: Sink, A: Asks>(
         (record { asker = asks.old; asks = asks.new; before = W.held writer.old; after = W.held writer.new }))) }
     ensures left { IfErr result (λ fault. IfSome (R.left reader.old) (λ stream. HasLeft fault A.answers stream
         (record { asker = asks.old; asks = asks.new; before = W.held writer.old; after = W.held writer.new }))) }
-    ensures kept_up { IfErr result (λ fault. is_read fault ≡ true → (read : List ℕ) × Consumes (R.left reader.old) (R.left reader.new) read
-        × HasKeptUp A.answers ⟦<W as Sink>⟧ read (record { asker = asks.old; asks = asks.new; before = writer.old; after = writer.new })) }
+    ensures kept_up { IfErr result (λ fault. is_read fault ≡ true → (read : List ℕ)
+        × Consumes (R.left reader.old) (R.left reader.new) read
+        × HasKeptUp A.answers ⟦<W as Sink>⟧ read
+        (record { asker = asks.old; asks = asks.new; before = writer.old; after = writer.new })) }
     ensures written { IfErr result (λ fault. W.taken writer.new ≡ W.taken writer.old + written_of fault) }
     ensures read_flag { MatchResult result (λ _. R.take_failed reader.new ≡ R.take_failed reader.old)
         (λ fault. R.take_failed reader.new ≡ (is_read fault || R.take_failed reader.old)) }
     ensures write_flag { MatchResult result (λ _. W.put_failed writer.new ≡ W.put_failed writer.old)
         (λ fault. W.put_failed writer.new ≡ (not (is_read fault) || W.put_failed writer.old)) }
     ensures reads { (reader.new ≡ reader.old)
-        ⊎ MatchResult result (λ _. ReadsToPiece R.left R.took reader.old reader.new) (λ fault. ReadsToFault fault R.left R.took reader.old reader.new) }
+        ⊎ MatchResult result (λ _. ReadsToPiece R.left R.took reader.old reader.new)
+        (λ fault. ReadsToFault fault R.left R.took reader.old reader.new) }
     ensures most { R.reads reader.new ≤ R.reads reader.old + 16384000 }
 {
     match Conn::new(alloc) {

@@ -44,5 +44,9 @@ pub struct Console<I, O, E> {
 }
 
 impl<I: Source, O: Sink, E: Sink> Terminal for Console<I, O, E> {
-    ghost streams = { λ c. record { input = ⟦<I as Reads>⟧.state c.input; output = ⟦<O as Writes>⟧.state c.output; errors = ⟦<E as Writes>⟧.state c.errors } };
+    ghost streams = { λ c. record {
+      input = ⟦<I as Reads>⟧.state c.input;
+      output = ⟦<O as Writes>⟧.state c.output;
+      errors = ⟦<E as Writes>⟧.state c.errors;
+    } };
 }

@@ -37,7 +37,8 @@ impl<T> HandedOver<T> {
     /// No connection, and no orders. Its error is that memory was refused.
     pub fn new(alloc: Global) -> Result<Self, AllocError>
         ensures empty { IfOk result (λ handed. handed.transports.items ≡ []) }
-        ensures goes_on { IfOk result (λ handed. (handed.ending ≡ Ending.GoesOn) × (handed.is_pressed ≡ false) × (handed.is_serving ≡ false)) }
+        ensures goes_on { IfOk result
+            (λ handed. (handed.ending ≡ Ending.GoesOn) × (handed.is_pressed ≡ false) × (handed.is_serving ≡ false)) }
     {
         Ok(HandedOver {
             transports: VecDeque::with_capacity(alloc, FIRST_CAPACITY)?,
@@ -68,7 +69,9 @@ impl<T> HandedOver<T> {
     pub fn take(&mut self) -> Option<T>
         ensures first { IfSome result (λ transport. self.old.transports.items ≡ transport ∷ self.new.transports.items) }
         ensures none { IfNone result ((self.old.transports.items ≡ []) × (self.new.transports.items ≡ [])) }
-        ensures orders { (self.new.ending ≡ self.old.ending) × (self.new.is_pressed ≡ self.old.is_pressed) × (self.new.is_serving ≡ self.old.is_serving) }
+        ensures orders { (self.new.ending ≡ self.old.ending)
+            × (self.new.is_pressed ≡ self.old.is_pressed)
+            × (self.new.is_serving ≡ self.old.is_serving) }
     {
         self.transports.pop_front()
     }

@@ -67,7 +67,8 @@ impl<A: Asks, T: Transport + EndsEarly + Drop, P: Poller<T>> Worker<A, T, P> {
         ensures len { IfOk result (λ worker. length (connections worker.table) ≡ capacity.slots) }
         ensures free { IfOk result (λ worker. (slot : ℕ) → at_slot (connections worker.table) slot ≡ None) }
         ensures ready { IfOk result (λ worker. ready_slots worker.table ≡ []) }
-        ensures timeouts { IfOk result (λ worker. (timeouts_of worker.table ≡ capacity.timeouts) × (worker.timeouts ≡ capacity.timeouts)) }
+        ensures timeouts { IfOk result
+            (λ worker. (timeouts_of worker.table ≡ capacity.timeouts) × (worker.timeouts ≡ capacity.timeouts)) }
         ensures room { IfOk result (λ worker. room_of worker.table ≡ 67108864) }
         ensures parts { IfOk result (λ worker. (worker.asks ≡ asks) × (worker.poller ≡ poller)) }
     {
@@ -157,9 +158,11 @@ impl<A: Asks, T: Transport + EndsEarly + Drop, P: Poller<T>> Worker<A, T, P> {
     fn serve_one(&mut self) -> Option<bool>
         ensures turn { MatchOption result
             ((ready_slots self.old.table ≡ []) × HasRun A.answers ⟦<T as Transport>⟧ (state self.old) (state self.new))
-            (λ _. HasTurned A.answers ⟦<T as Transport>⟧ (record { least = 1; now = self.old.now }) (state self.old) (state self.new)) }
+            (λ _. HasTurned A.answers ⟦<T as Transport>⟧ (record { least = 1; now = self.old.now })
+            (state self.old) (state self.new)) }
         ensures once { (queries : List QueryOutcome) × HasAsked A.answers self.old.asks queries self.new.asks }
-        ensures unasked { MatchOption result (self.new.asks ≡ self.old.asks) (λ asked. asked ≡ false → self.new.asks ≡ self.old.asks) }
+        ensures unasked { MatchOption result (self.new.asks ≡ self.old.asks)
+            (λ asked. asked ≡ false → self.new.asks ≡ self.old.asks) }
         ensures now { self.new.now ≡ self.old.now }
     {
         let served = self.table.serve_next(&mut self.asks, self.now)?;
@@ -171,8 +174,10 @@ impl<A: Asks, T: Transport + EndsEarly + Drop, P: Poller<T>> Worker<A, T, P> {
     // been asked.
     fn serve_some(&mut self) -> bool
         ensures turns { MatchBool result
-            (HasTurned A.answers ⟦<T as Transport>⟧ (record { least = 1; now = self.old.now }) (state self.old) (state self.new))
-            (HasServedSome A.answers ⟦<T as Transport>⟧ (record { least = 64; now = self.old.now }) (state self.old) (state self.new)) }
+            (HasTurned A.answers ⟦<T as Transport>⟧ (record { least = 1; now = self.old.now })
+            (state self.old) (state self.new))
+            (HasServedSome A.answers ⟦<T as Transport>⟧ (record { least = 64; now = self.old.now })
+            (state self.old) (state self.new)) }
         ensures once { (queries : List QueryOutcome) × HasAsked A.answers self.old.asks queries self.new.asks }
         ensures run { HasRun A.answers ⟦<T as Transport>⟧ (state self.old) (state self.new) }
         ensures now { self.new.now ≡ self.old.now }
@@ -244,7 +249,9 @@ impl<A: Asks, T: Transport + EndsEarly + Drop, P: Poller<T>> Worker<A, T, P> {
     // Waits for events, and notes which connections may go on. It doesn't wait while a connection has a turn.
     fn wait(&mut self, room: &mut [usize])
         ensures run { HasRun A.answers ⟦<T as Transport>⟧ (state self.old) (state self.new) }
-        ensures woken { (slots : List ℕ) × P.reported self.old.poller slots self.new.poller × HaveTurns slots self.old.table self.new.table }
+        ensures woken { (slots : List ℕ)
+            × P.reported self.old.poller slots self.new.poller
+            × HaveTurns slots self.old.table self.new.table }
     {
         let at_most = if self.table.is_ready() || self.has_made_room {
             0
@@ -269,7 +276,8 @@ impl<A: Asks, T: Transport + EndsEarly + Drop, P: Poller<T>> Worker<A, T, P> {
     // Obeys what it is to do now. Returns whether it ends, and how.
     fn obey(&mut self, orders: Orders) -> Ending
         ensures run { HasRun A.answers ⟦<T as Transport>⟧ (state self.old) (state self.new) }
-        ensures pressed { MatchBool orders.is_pressed (HasGivenWay (Slot self.old.now) self.old.table self.new.table) (self.new.table ≡ self.old.table) }
+        ensures pressed { MatchBool orders.is_pressed (HasGivenWay (Slot self.old.now) self.old.table self.new.table)
+            (self.new.table ≡ self.old.table) }
         ensures ending { result ≡ orders.ending }
     {
         let (ending, closed) = orders.obey(&mut self.table, self.now);

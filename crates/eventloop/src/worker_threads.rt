@@ -33,7 +33,8 @@ pub struct HasServed<A, T: Drop, P> {
 }
 
 impl<A: Asks, T: Transport + Drop, P> Promise<Worker<A, T, P>> for HasServed<A, T, P> {
-    ghost kept_by = { λ promise left. HasBeen A.answers ⟦<T as Transport>⟧ left.table left.asks × (timeouts_of left.table ≡ timeouts_of promise.begun.value.table) };
+    ghost kept_by = { λ promise left. HasBeen A.answers ⟦<T as Transport>⟧ left.table left.asks
+        × (timeouts_of left.table ≡ timeouts_of promise.begun.value.table) };
 }
 
 /// Workers that were started, to which connections are handed over in turn.
@@ -119,7 +120,8 @@ impl<A: Asks + Drop, T: Transport + EndsEarly + Drop, P: Drop, W: Wakes + Drop> 
 
     /// Has each worker end, in one way or the other, waits until it has, and gives all back, if there is memory for them.
     pub fn end<R: Wait + Threads>(self, rt: &R, ending: Ending) -> Option<Vec<Worker<A, T, P>>>
-        ensures served { IfSome result (λ workers. All (λ worker. HasBeen A.answers ⟦<T as Transport>⟧ worker.table worker.asks) workers.items) }
+        ensures served { IfSome result
+            (λ workers. All (λ worker. HasBeen A.answers ⟦<T as Transport>⟧ worker.table worker.asks) workers.items) }
         ensures times { (times : Timeouts) → BeganWith times self.threads.items
             → IfSome result (λ workers. All (λ worker. timeouts_of worker.table ≡ times) workers.items) }
     {

@@ -141,7 +141,9 @@ fn joined_at(
     text: &[u8],
     room: usize,
 ) -> Result<(Expr, &[u8]), ReadingError>
-    ensures value { MatchResult result (λ r. joined_at joint (part_at room) text.now ≡ Some (r.0, r.1.now)) (IsStop (joined_at joint (part_at room) text.now)) }
+    ensures value { MatchResult result
+        (λ r. joined_at joint (part_at room) text.now ≡ Some (r.0, r.1.now))
+        (IsStop (joined_at joint (part_at room) text.now)) }
     ensures shorter { IfOk result (λ r. length r.1.now < length text.now) }
 {
     let (first, rest) = part_of(alloc, joint, text, room)?;

@@ -106,7 +106,8 @@ pub(crate) fn write_left<L: Log>(
     requires empty { successor.old.count ≡ 0 }
     ensures written { L.reliable → L.content successor.old.log ≡ [] → OnOk result ((all : List (List ℕ))
         → L.content log.old ≡ journal_of sha256 (name_bytes records.name) all → records.count ≡ length all → AreLast changes.now (commands_of all)
-        → (L.content successor.new.log ≡ journal_of sha256 (name_bytes successor.old.name) (compacted all)) × (successor.new.count ≡ length (compacted all))) }
+        → (L.content successor.new.log ≡ journal_of sha256 (name_bytes successor.old.name) (compacted all))
+        × (successor.new.count ≡ length (compacted all))) }
     ensures name { successor.new.name ≡ successor.old.name }
     ensures read { L.reliable → IsRead L.content L.may_leave L.moment L.left_since log.old log.new }
 {

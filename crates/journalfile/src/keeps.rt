@@ -44,7 +44,10 @@ pub trait Keeps {
         ensures no_memory { result ≡ Err KeepFault.NoMemory → self.new ≡ self.old };
 
     /// Where nothing is done, a crash leaves the batches.
-    ghost stays: { (keeper : Self) (batches : List (List ℕ)) (file : List ℕ) → keeps keeper batches → may_leave keeper keeper file → stands keeper file batches };
+    ghost stays: { (keeper : Self) (batches : List (List ℕ)) (file : List ℕ)
+        → keeps keeper batches
+        → may_leave keeper keeper file
+        → stands keeper file batches };
 }
 
 /// A keeper that keeps nothing: batches end with the process.
@@ -91,7 +94,9 @@ impl<L: Log> Keeps for Journal<L> {
 
     ghost stands = { λ journal. StandsFor (name_bytes journal.name) };
 
-    ghost stays = { λ journal batches file kept left. settled_stands L.content L.may_leave journal batches (kept left.0).1 file (L.only_now left.0 journal.log file left.1) };
+    ghost stays = { λ journal batches file kept left. settled_stands L.content L.may_leave journal batches
+        (kept left.0).1 file
+        (L.only_now left.0 journal.log file left.1) };
 
     fn keep(&mut self, batches: &[Vec<u8>]) -> Result<(), KeepFault> {
         if batches.len() as u64 > u64::MAX - self.count {

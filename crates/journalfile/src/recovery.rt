@@ -100,7 +100,10 @@ fn replay<L: Log>(
     machine: &mut Machine,
 ) -> Result<(u64, usize), RecoverFault<L::Failure>>
     requires ahead { L.reliable → IsAhead (L.content log.old) frames.old }
-    ensures replayed { IfOk result (λ r. HasReplayed (name_bytes name.now) L.reliable (L.content log.old) frames.old.position machine.old machine.new r.0 r.1) }
+    ensures replayed { IfOk result
+        (λ r. HasReplayed
+        (name_bytes name.now) L.reliable
+        (L.content log.old) frames.old.position machine.old machine.new r.0 r.1) }
     ensures fault { L.reliable → IfErr result (IsReplayFault (name_bytes name.now) (drop frames.old.position (L.content log.old)) machine.old) }
     ensures read { L.reliable → IsRead L.content L.may_leave L.moment L.left_since log.old log.new }
 {

@@ -59,8 +59,13 @@ fn first_free(
     candidate: &Candidate<'_>,
     positions: &[Position],
 ) -> Option<Fit>
-    ensures some { IfSome result (λ fit. IsFirstFree page.now placing.now.labels candidate.now (map (corner_at candidate.now.anchor (size_of page.now.font candidate.now.text)) positions.now) fit.at fit.taken) }
-    ensures none { IfNone result (HasNoFree page.now placing.now.labels candidate.now (map (corner_at candidate.now.anchor (size_of page.now.font candidate.now.text)) positions.now)) }
+    ensures some { IfSome result
+        (λ fit. IsFirstFree page.now placing.now.labels candidate.now
+        (map (corner_at candidate.now.anchor (size_of page.now.font candidate.now.text)) positions.now)
+        fit.at fit.taken) }
+    ensures none { IfNone result
+        (HasNoFree page.now placing.now.labels candidate.now
+        (map (corner_at candidate.now.anchor (size_of page.now.font candidate.now.text)) positions.now)) }
 {
     let size = page.size_of(candidate);
     let label = candidate.label();
@@ -81,8 +86,13 @@ fn first_position(
     candidate: &Candidate<'_>,
     position: Position,
 ) -> Option<Fit>
-    ensures some { IfSome result (λ fit. IsFirstFree page.now placing.now.labels candidate.now (map (corner_at candidate.now.anchor (size_of page.now.font candidate.now.text)) (positions position)) fit.at fit.taken) }
-    ensures none { IfNone result (HasNoFree page.now placing.now.labels candidate.now (map (corner_at candidate.now.anchor (size_of page.now.font candidate.now.text)) (positions position))) }
+    ensures some { IfSome result
+        (λ fit. IsFirstFree page.now placing.now.labels candidate.now
+        (map (corner_at candidate.now.anchor (size_of page.now.font candidate.now.text)) (positions position))
+        fit.at fit.taken) }
+    ensures none { IfNone result
+        (HasNoFree page.now placing.now.labels candidate.now
+        (map (corner_at candidate.now.anchor (size_of page.now.font candidate.now.text)) (positions position))) }
 {
     match position {
         Position::Automatic => first_free(placing, page, candidate, &AUTOMATIC),

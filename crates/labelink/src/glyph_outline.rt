@@ -65,7 +65,9 @@ impl<'a> GlyphOutline<'a> {
     fn covers_beside_or_below(&self, i: u16, j: u16) -> bool
         ensures { result ≡
             ((covers_glyph self.now (pos i -ℤ pos 1) (pos j) || covers_glyph self.now (pos (i + 1)) (pos j))
-            || (covers_glyph self.now (pos i -ℤ pos 1) (pos (j + 1)) || (covers_glyph self.now (pos i) (pos (j + 1)) || covers_glyph self.now (pos (i + 1)) (pos (j + 1))))) }
+            || (covers_glyph self.now (pos i -ℤ pos 1) (pos (j + 1))
+            || (covers_glyph self.now (pos i) (pos (j + 1))
+            || covers_glyph self.now (pos (i + 1)) (pos (j + 1))))) }
     {
         let j = i64::from(j);
         self.covers_beside(i, j) || self.covers_near(i, j + 1)

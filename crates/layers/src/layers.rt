@@ -82,7 +82,9 @@ impl Layers {
 
     /// The index of the layer of points with that name.
     pub fn points_named(&self, name: &[u8]) -> Result<usize, Refusal>
-        ensures value { MatchResult result (λ index. IsFoundAt (found_points name.now self.now) index self.now) (λ refusal. found_points name.now self.now ≡ Err refusal) }
+        ensures value { MatchResult result
+            (λ index. IsFoundAt (found_points name.now self.now) index self.now)
+            (λ refusal. found_points name.now self.now ≡ Err refusal) }
         ensures within { IfOk result (λ index. index < length self.now.layers) }
     {
         match self.served.find(name) {

@@ -256,8 +256,14 @@ fn file_cause(
     files: &Files,
     alloc: Global,
 ) -> Result<Option<FileCause>, AllocError>
-    ensures fault { IfOk result (λ found. option_map (λ cause. record { line = first.now.line; kind = kind_of cause }) found ≡ file_fault files.now tree.now first.now) }
-    ensures refused { IfOk result (λ found. IfSome found (λ cause. IfSome (bytes_in first.now.text files.now) (λ bytes. refuses tree.now first.now.text bytes cause ≡ true))) }
+    ensures fault { IfOk result
+        (λ found. option_map (λ cause. record { line = first.now.line; kind = kind_of cause }) found
+        ≡ file_fault files.now tree.now first.now) }
+    ensures refused { IfOk result
+        (λ found. IfSome found
+        (λ cause. IfSome
+        (bytes_in first.now.text files.now)
+        (λ bytes. refuses tree.now first.now.text bytes cause ≡ true))) }
 {
     let name = first.text.as_str();
     match files.bytes(name) {

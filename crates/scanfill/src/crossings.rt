@@ -84,10 +84,17 @@ impl Crossings {
 
 // The row of the first crossing that waits, or the end, whichever comes first.
 fn next_begin(list: &[Crossing], begun: usize, end: u16) -> u16
-    requires order { (k l : ℕ) (d : Crossing) → begun ≤ k → k ≤ l → l < length list.now → row_of (slice_index_or list.now k d) ≤ row_of (slice_index_or list.now l d) }
+    requires order { (k l : ℕ) (d : Crossing)
+        → begun ≤ k
+        → k ≤ l
+        → l < length list.now
+        → row_of (slice_index_or list.now k d) ≤ row_of (slice_index_or list.now l d) }
     ensures most { result ≤ end }
     ensures least { (k : ℕ) (d : Crossing) → begun ≤ k → k < length list.now → result ≤ row_of (slice_index_or list.now k d) }
-    ensures from { (row : ℕ) → row ≤ end → ((k : ℕ) (d : Crossing) → begun ≤ k → k < length list.now → row ≤ row_of (slice_index_or list.now k d)) → row ≤ result }
+    ensures from { (row : ℕ)
+        → row ≤ end
+        → ((k : ℕ) (d : Crossing) → begun ≤ k → k < length list.now → row ≤ row_of (slice_index_or list.now k d))
+        → row ≤ result }
 {
     if begun < list.len() {
         return list[begun].row().min(end);
@@ -99,7 +106,11 @@ fn next_begin(list: &[Crossing], begun: usize, end: u16) -> u16
 fn begun_by(list: &[Crossing], begun: usize, row: u16) -> usize
     requires within { begun ≤ length list.now }
     requires waiting { (k : ℕ) (d : Crossing) → begun ≤ k → k < length list.now → row ≤ row_of (slice_index_or list.now k d) }
-    requires order { (k l : ℕ) (d : Crossing) → begun ≤ k → k ≤ l → l < length list.now → row_of (slice_index_or list.now k d) ≤ row_of (slice_index_or list.now l d) }
+    requires order { (k l : ℕ) (d : Crossing)
+        → begun ≤ k
+        → k ≤ l
+        → l < length list.now
+        → row_of (slice_index_or list.now k d) ≤ row_of (slice_index_or list.now l d) }
     ensures rising { begun ≤ result }
     ensures within { result ≤ length list.now }
     ensures begun { (k : ℕ) (d : Crossing) → begun ≤ k → k < result → row_of (slice_index_or list.now k d) ≡ row }

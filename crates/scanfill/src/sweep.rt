@@ -48,7 +48,11 @@ impl<'a> Sweep<'a> {
         before: Work,
     ) -> Result<(Self, Work), AllocError>
         ensures sweep { IfOk result (λ made. made.0 ≡ record { edges = edges.now.items; width = width; height = height; row = 0 }) }
-        ensures work { IfOk result (λ made. made.1 ≡ record { divisions = min (before.divisions + 2 * walk_count edges.now.items width height) (2 ^ 64 - 1) }) }
+        ensures work { IfOk result
+            (λ made. made.1
+            ≡ record {
+              divisions = min (before.divisions + 2 * walk_count edges.now.items width height) (2 ^ 64 - 1);
+            }) }
     {
         let alloc = *edges.allocator();
         let rows = height.pixels();
@@ -132,7 +136,11 @@ fn push_crossing(
     ensures counts { OnOk result ((i j : ℕ) → i < sides.width → j < sides.height →
         count_by (reaches i j) crossings.new.items
         ≡ count_by (reaches i j) crossings.old.items + cond (crosses_at_or_left (pixel_centre (pos i) (pos j)) edge) 1 0) }
-    ensures work { OnOk result (work.new ≡ (if is_walk (class_of edge sides.width sides.height) then record { divisions = min (work.old.divisions + 2) (2 ^ 64 - 1) } else work.old)) }
+    ensures work { OnOk result
+        (work.new
+        ≡ (if is_walk (class_of edge sides.width sides.height)
+        then record { divisions = min (work.old.divisions + 2) (2 ^ 64 - 1) }
+        else work.old)) }
 {
     match classify(edge, sides.width, sides.height) {
         EdgeClass::Drop => {}

@@ -37,7 +37,11 @@ fn play_commands<S: Sink>(
     sink: &mut S,
 ) -> Result<(), PutFailed>
     ensures played { OnOk result (HasPlayed machine.old script.now machine.new (S.held sink.old) (S.held sink.new)) }
-    ensures part { OnErr result (HasPartlyPlayed machine.old script.now machine.new (S.held sink.old) (S.held sink.new) (S.taken sink.new - S.taken sink.old)) }
+    ensures part { OnErr result
+        (HasPartlyPlayed machine.old script.now machine.new
+        (S.held sink.old)
+        (S.held sink.new)
+        (S.taken sink.new - S.taken sink.old)) }
     ensures grows { S.taken sink.old ≤ S.taken sink.new }
     ensures flag { MatchResult result (λ _. S.put_failed sink.new ≡ S.put_failed sink.old) (λ _. S.put_failed sink.new ≡ true) }
 {
@@ -65,7 +69,11 @@ fn play_readable<S: Sink>(
 ) -> Result<(), PutFailed>
     requires readable { fault_of (script_of script.now) ≡ None }
     ensures played { OnOk result (HasPlayed machine.old script.now machine.new (S.held sink.old) (S.held sink.new)) }
-    ensures part { OnErr result (HasPartlyPlayed machine.old script.now machine.new (S.held sink.old) (S.held sink.new) (S.taken sink.new - S.taken sink.old)) }
+    ensures part { OnErr result
+        (HasPartlyPlayed machine.old script.now machine.new
+        (S.held sink.old)
+        (S.held sink.new)
+        (S.taken sink.new - S.taken sink.old)) }
     ensures grows { S.taken sink.old ≤ S.taken sink.new }
     ensures flag { MatchResult result (λ _. S.put_failed sink.new ≡ S.put_failed sink.old) (λ _. S.put_failed sink.new ≡ true) }
 {

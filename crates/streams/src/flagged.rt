@@ -96,7 +96,9 @@ impl<T> Flagged<T> {
 impl<T: Read> Source for Flagged<T> {
     ghost left = { λ s. T.remaining s.inner };
 
-    ghost took = { λ old given new. MatchOption given (new.take_failed ≡ true) (λ bytes. Consumes (T.remaining old.inner) (T.remaining new.inner) bytes × (new.reads ≡ old.reads + 1)) };
+    ghost took = { λ old given new. MatchOption given
+        (new.take_failed ≡ true)
+        (λ bytes. Consumes (T.remaining old.inner) (T.remaining new.inner) bytes × (new.reads ≡ old.reads + 1)) };
 
     ghost reads = { λ s. s.reads };
 
@@ -106,7 +108,10 @@ impl<T: Read> Source for Flagged<T> {
     fn take(&mut self, room: &mut [u8]) -> Result<usize, TakeFailed>
         ensures count { IfOk result (λ n. n ≤ length room.new) }
         ensures bytes { ReadConsumes (T.remaining self.old.inner) (T.remaining self.new.inner) result room.new }
-        ensures took { MatchResult result (λ n. Consumes (T.remaining self.old.inner) (T.remaining self.new.inner) (take n room.new) × (self.new.reads ≡ self.old.reads + 1)) (λ _. self.new.take_failed ≡ true) }
+        ensures took { MatchResult result
+            (λ n. Consumes (T.remaining self.old.inner) (T.remaining self.new.inner) (take n room.new)
+            × (self.new.reads ≡ self.old.reads + 1))
+            (λ _. self.new.take_failed ≡ true) }
         ensures counted { OnOk result (self.new.reads ≡ self.old.reads + 1) }
         ensures least { OnErr result (self.old.reads ≤ self.new.reads) }
         ensures most { OnErr result (self.new.reads ≤ self.old.reads + 1) }
@@ -142,7 +147,9 @@ impl<T: Write> Sink for Flagged<T> {
         ensures some { IfOk result (λ n. 1 ≤ length bytes.now → 1 ≤ n) }
         ensures bytes { IfOk result (λ n. Appends (T.contents self.old.inner) (T.contents self.new.inner) (take n bytes.now)) }
         ensures taken { IfOk result (λ n. self.new.taken ≡ self.old.taken + n) }
-        ensures flushed { MatchResult result (λ n. self.new.is_flushed ≡ (if nat_eq n 0 then self.old.is_flushed else false)) (λ _. self.new.is_flushed ≡ self.old.is_flushed) }
+        ensures flushed { MatchResult result
+            (λ n. self.new.is_flushed ≡ (if nat_eq n 0 then self.old.is_flushed else false))
+            (λ _. self.new.is_flushed ≡ self.old.is_flushed) }
         ensures kept { OnErr result (Keeps (T.contents self.old.inner) (T.contents self.new.inner)) }
         ensures none_taken { OnErr result (self.new.taken ≡ self.old.taken) }
         ensures flag { MatchResult result (λ _. self.new.put_failed ≡ self.old.put_failed) (λ _. self.new.put_failed ≡ true) }

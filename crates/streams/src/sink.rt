@@ -28,7 +28,9 @@ pub trait Sink {
         ensures some { IfOk result (λ n. 1 ≤ length bytes.now → 1 ≤ n) }
         ensures bytes { IfOk result (λ n. Appends (held self.old) (held self.new) (take n bytes.now)) }
         ensures taken { IfOk result (λ n. taken self.new ≡ taken self.old + n) }
-        ensures flushed { MatchResult result (λ n. is_flushed self.new ≡ (if nat_eq n 0 then is_flushed self.old else false)) (λ _. is_flushed self.new ≡ is_flushed self.old) }
+        ensures flushed { MatchResult result
+            (λ n. is_flushed self.new ≡ (if nat_eq n 0 then is_flushed self.old else false))
+            (λ _. is_flushed self.new ≡ is_flushed self.old) }
         ensures kept { OnErr result (Keeps (held self.old) (held self.new)) }
         ensures none_taken { OnErr result (taken self.new ≡ taken self.old) }
         ensures flag { MatchResult result (λ _. put_failed self.new ≡ put_failed self.old) (λ _. put_failed self.new ≡ true) };

@@ -129,7 +129,10 @@ impl Projection {
 
     /// How far a latitude is from the top, in sixteenths of a pixel.
     pub fn down(&self, latitude: Coordinate) -> i64
-        ensures value { result ≡ sixteenths self.now.height (self.now.area.maxy -ℤ height_of self.now.heights latitude) (self.now.area.maxy -ℤ self.now.area.miny) }
+        ensures value { result
+            ≡ sixteenths self.now.height
+            (self.now.area.maxy -ℤ height_of self.now.heights latitude)
+            (self.now.area.maxy -ℤ self.now.area.miny) }
         ensures range { IsBelow (2 ^ 47) result }
     {
         let area = self.view.area();
