@@ -1,4 +1,4 @@
-ghost use Rattle.std.specs.Prelude.{◌≡◌, ◌≤◌, ◌↔◌, IsTrue, IfOk};
+ghost use Rattle.std.specs.Prelude.{◌≡◌, ◌+◌, ◌≤◌, ◌↔◌, IsTrue, IfOk};
 ghost use Rattle.collide.specs.Marks.{HasMarked, IsBlank, IsMarkedBy, IsMarkable, IsWhole, around, bit_of};
 
 use crate::bits::{has_any, set_all};
@@ -17,7 +17,9 @@ pub struct Marks {
 impl Marks {
     /// No marks, over a picture of that width and height.
     pub fn new(alloc: Global, width: PictureSide, height: PictureSide) -> Result<Self, AllocError>
-        ensures { IfOk result IsBlank }
+        ensures blank { IfOk result IsBlank }
+        ensures columns { IfOk result (λ marks. marks.columns ≡ width + 2) }
+        ensures rows { IfOk result (λ marks. marks.rows ≡ height + 2) }
     {
         let columns = usize::from(width.pixels()) + 2;
         let rows = usize::from(height.pixels()) + 2;

@@ -1,4 +1,4 @@
-ghost use Rattle.std.specs.Prelude.{◌≡◌, ℕ, ◌+◌, ◌*◌, ◌≤◌, ◌<◌, ◌^◌, Bool, true, false, ◌&&◌, ◌||◌, ◌==◌, [], cond, pos, int_le, All, count_by, length, IfOk, OnOk};
+ghost use Rattle.std.specs.Prelude.{◌≡◌, ℕ, ◌+◌, ◌*◌, ◌≤◌, ◌<◌, ◌^◌, Bool, true, false, ◌&&◌, ◌||◌, ◌==◌, [], cond, pos, int_le, All, count_by, length, IfErr, IfOk, OnOk};
 ghost use Rattle.geom.specs.Device.{pixel_centre};
 ghost use Rattle.geom.specs.Edge.{crosses_at_or_left};
 ghost use Rattle.geom.specs.Range.{IsBelow};
@@ -6,6 +6,8 @@ ghost use Rattle.clip.specs.EdgeClass.{crosses_row, has_row, rows_of};
 ghost use Rattle.geom.specs.declared.side.TheConstants.{MAX_PICTURE_SIDE};
 ghost use Rattle.scanfill.specs.Column.{CrossesRows, column_of};
 ghost use Rattle.scanfill.specs.Flips.{AreRising, index_of, is_pixel_flipped, flips_by};
+ghost use Rattle.scanfill.specs.declared.flips.FlipFault.TheVariants.{TooMany};
+ghost use Rattle.scanfill.specs.declared.flips.TheConstants.{MAX_FLIPS};
 
 use crate::row_crossing::RowCrossing;
 use crate::row_spans::RowSpans;
@@ -79,7 +81,10 @@ impl Flips {
         requires { rows ≡ rows_of edge self.old.height }
         ensures sides { self.new ≡ record self.old { flips = self.new.flips } }
         ensures counts { OnOk result ((i j : ℕ) → i < self.old.width → j < self.old.height →
-            count_by (flips_by i j) self.new.flips ≡ count_by (flips_by i j) self.old.flips + cond (crosses_at_or_left (pixel_centre (pos i) (pos j)) edge) 1 0) }
+            count_by (flips_by i j) self.new.flips
+            ≡ count_by (flips_by i j) self.old.flips
+            + cond (crosses_at_or_left (pixel_centre (pos i) (pos j)) edge) 1 0) }
+        ensures many { IfErr result (λ fault. fault ≡ TooMany → MAX_FLIPS ≤ length self.new.flips) }
     {
         match classify_in(edge, rows, self.width, self.height) {
             EdgeClass::Drop => Ok(()),
@@ -113,6 +118,7 @@ impl Flips {
         ensures sides { self.new ≡ record self.old { flips = self.new.flips } }
         ensures counts { OnOk result ((i j : ℕ) → i < self.old.width →
             count_by (flips_by i j) self.new.flips ≡ count_by (flips_by i j) self.old.flips + cond (has_row rows j && int_le column (pos i)) 1 0) }
+        ensures many { IfErr result (λ fault. fault ≡ TooMany → MAX_FLIPS ≤ length self.new.flips) }
     {
         for row in rows.from..rows.to {
             self.add_flip(row, column)?;
@@ -128,7 +134,10 @@ impl Flips {
         requires crosses { CrossesRows edge rows.from rows.to }
         ensures sides { self.new ≡ record self.old { flips = self.new.flips } }
         ensures counts { OnOk result ((i j : ℕ) → i < self.old.width →
-            count_by (flips_by i j) self.new.flips ≡ count_by (flips_by i j) self.old.flips + cond (has_row rows j && int_le (column_of edge j) (pos i)) 1 0) }
+            count_by (flips_by i j) self.new.flips
+            ≡ count_by (flips_by i j) self.old.flips
+            + cond (has_row rows j && int_le (column_of edge j) (pos i)) 1 0) }
+        ensures many { IfErr result (λ fault. fault ≡ TooMany → MAX_FLIPS ≤ length self.new.flips) }
     {
         let _height = self.height.pixels();
         if rows.from + 1 == rows.to {
@@ -152,6 +161,7 @@ impl Flips {
         ensures sides { self.new ≡ record self.old { flips = self.new.flips } }
         ensures counts { OnOk result ((i j : ℕ) → i < self.old.width →
             count_by (flips_by i j) self.new.flips ≡ count_by (flips_by i j) self.old.flips + cond (j == row && int_le column (pos i)) 1 0) }
+        ensures many { IfErr result (λ fault. fault ≡ TooMany → MAX_FLIPS ≤ length self.new.flips) }
     {
         let width = self.width.pixels();
         let height = self.height.pixels();
