@@ -17,12 +17,12 @@ abbrev pub is_in_box : Span → Span → ℕ → ℕ → Bool
 is_in_box columns rows i j = has_column columns i && has_column rows j
 
 -- no row is filled yet
-pub box-none : (columns rows : Span) (colour : ℕ → ℕ → Option Rgb) (width from : ℕ) (a : List (Option Rgb)) → AreRowsFilled (is_in_box columns rows) colour width from from a a
+pub box-none : (columns rows : Span) (colour : ℕ → ℕ → Option Rgb) (width from : ℕ) (a : List (Option Rgb)) → AreRowsFilled (is_in_box columns rows) colour width (record { from = from; to = from }) a a
 box-none columns rows colour width from a = record { filled = λ at h low high. absurd (omega arith); before = λ at h low. refl; after = λ at h high. refl }
 
 -- some columns of a row are those of a box in one of its rows
 row-of : (columns rows : Span) (colour : ℕ → ℕ → Option Rgb) (width j : ℕ) (a b : List (Option Rgb)) → rows.from ≤ j → j < rows.to →
-    AreRowsFilled (λ i k. has_column columns i) colour width j (j + 1) a b → AreRowsFilled (is_in_box columns rows) colour width j (j + 1) a b
+    AreRowsFilled (λ i k. has_column columns i) colour width (record { from = j; to = j + 1 }) a b → AreRowsFilled (is_in_box columns rows) colour width (record { from = j; to = j + 1 }) a b
 row-of columns rows colour width j a b least below f = record {
   filled = λ at h low high.
       let here : at / width ≡ j = omega arith in
@@ -39,14 +39,14 @@ row-of columns rows colour width j a b least below f = record {
 
 -- a row of a box after rows of it
 pub box-row : (columns rows : Span) (colour : ℕ → ℕ → Option Rgb) (width from j : ℕ) (a b c : List (Option Rgb)) → from ≡ rows.from → from ≤ j → j < rows.to → length b ≡ length a →
-    AreRowsFilled (is_in_box columns rows) colour width from j a b → AreRowsFilled (λ i k. has_column columns i) colour width j (j + 1) b c →
-    AreRowsFilled (is_in_box columns rows) colour width from (j + 1) a c
+    AreRowsFilled (is_in_box columns rows) colour width (record { from = from; to = j }) a b → AreRowsFilled (λ i k. has_column columns i) colour width (record { from = j; to = j + 1 }) b c →
+    AreRowsFilled (is_in_box columns rows) colour width (record { from = from; to = j + 1 }) a c
 box-row columns rows colour width from j a b c is least below area f g =
     filled-more (is_in_box columns rows) colour width from j (j + 1) a b c least (omega arith) area f (row-of columns rows colour width j b c (omega (arith, is)) below g)
 
 -- where all rows of a box are filled, it is
 pub box-all : (columns rows : Span) (colour : ℕ → ℕ → Option Rgb) (width past : ℕ) (a b : List (Option Rgb)) → rows.to ≤ past →
-    AreRowsFilled (is_in_box columns rows) colour width rows.from past a b → AreFilled (is_in_box columns rows) colour width a b
+    AreRowsFilled (is_in_box columns rows) colour width (record { from = rows.from; to = past }) a b → AreFilled (is_in_box columns rows) colour width a b
 box-all columns rows colour width past a b last f = λ k h. ⊎_elim
     (λ (above : k / width < rows.from).
     f.before k h above

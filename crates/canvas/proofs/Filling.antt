@@ -57,7 +57,7 @@ any-next test xs i x h e =
 
 -- rows after rows
 pub filled-more : (test : ℕ → ℕ → Bool) (colour : ℕ → ℕ → Option Rgb) (width from at past : ℕ) (a b c : List (Option Rgb)) → from ≤ at → at ≤ past → length b ≡ length a →
-    AreRowsFilled test colour width from at a b → AreRowsFilled test colour width at past b c → AreRowsFilled test colour width from past a c
+    AreRowsFilled test colour width (record { from = from; to = at }) a b → AreRowsFilled test colour width (record { from = at; to = past }) b c → AreRowsFilled test colour width (record { from = from; to = past }) a c
 filled-more test colour width from at past a b c first last area p q = record {
   filled = λ k h low high. ⊎_elim
       (λ (lt : k / width < at). q.before k (omega (arith, area)) lt ∙ p.filled k h low lt)
@@ -71,7 +71,7 @@ filled-more test colour width from at past a b c first last area p q = record {
 -- one row has its colours
 pub filled-row : (has : ℕ → Bool) (colour : ℕ → Option Rgb) (width r a k : ℕ) (pixels row : List (Option Rgb)) → 0 < width → a ≡ r * width → k ≡ width →
     a + k ≤ length pixels → length row ≡ k → ((i : ℕ) → colour_of row i ≡ (if has i then colour i else colour_of (mid_of a k pixels) i)) →
-    AreRowsFilled (λ i j. has i) (λ i j. colour i) width r (r + 1) pixels (put_mid a k pixels row)
+    AreRowsFilled (λ i j. has i) (λ i j. colour i) width (record { from = r; to = r + 1 }) pixels (put_mid a k pixels row)
 filled-row has colour width r a k pixels row some start is within wide filled = record {
   filled = λ at h low high.
       let j : ℕ = at % width in
@@ -138,7 +138,7 @@ rows-after rows j h = and_right (nat_le rows.from j) (nat_lt j rows.to) (le-ltb 
 -- all rows of a cover are filled, and it covers no pixel of the others
 pub filled-rows : (test : ℕ → ℕ → Bool) (colour : ℕ → ℕ → Option Rgb) (width height : ℕ) (rows : RowRange) (past : ℕ) (a b : List (Option Rgb)) → length a ≡ width * height → rows.to ≤ past →
     ((i j : ℕ) → i < width → j < height → has_row rows j ≡ false → test i j ≡ false) →
-    AreRowsFilled test colour width rows.from past a b → AreFilled test colour width a b
+    AreRowsFilled test colour width (record { from = rows.from; to = past }) a b → AreFilled test colour width a b
 filled-rows test colour width height rows past a b area last none filled = λ k h.
     let some = some-columns k width height (omega (arith, area)) in
     let column : k % width < width = mod_below k width some in

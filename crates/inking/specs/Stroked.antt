@@ -16,25 +16,29 @@ use Rattle.canvas.specs.Painted.{IsFilled}
 use Rattle.inking.specs.declared.trail.Tip.{Tip}
 use Rattle.inking.specs.declared.trail.Trail.{Trail}
 
+-- whether the pixel of a column and a row is covered
+abbrev pub PixelTest : Type 0
+PixelTest = ℕ → ℕ → Bool
+
 -- the line of a width along one part covers a pixel: one of the part's segments does, or a square round one of its vertices
-abbrev pub part_covers : Bool → ℕ → List DevicePoint → ℕ → ℕ → Bool
+abbrev pub part_covers : Bool → ℕ → List DevicePoint → PixelTest
 part_covers closed w part i j =
     list_any (covers_centre (pos i) (pos j)) (segments_of closed w part) || list_any (λ s. covers_square s (pos i) (pos j)) (map (square_at w) part)
 
 -- the square round a vertex covers a pixel
-abbrev pub vertex_covers : ℕ → DevicePoint → ℕ → ℕ → Bool
+abbrev pub vertex_covers : ℕ → DevicePoint → PixelTest
 vertex_covers w a i j = covers_square (square_at w a) (pos i) (pos j)
 
 -- the segment from one vertex to another covers a pixel
-abbrev pub segment_covers : ℕ → DevicePoint → DevicePoint → ℕ → ℕ → Bool
+abbrev pub segment_covers : ℕ → DevicePoint → DevicePoint → PixelTest
 segment_covers w a b i j = covers_segment w (edge_between (a, b)) (pixel_centre (pos i) (pos j))
 
 -- a step covers a pixel: the segment from one vertex to the next does, or the square round that one
-abbrev pub step_covers : ℕ → DevicePoint → DevicePoint → ℕ → ℕ → Bool
+abbrev pub step_covers : ℕ → DevicePoint → DevicePoint → PixelTest
 step_covers w a b i j = segment_covers w a b i j || vertex_covers w b i j
 
 -- one of the remaining steps from a vertex does: those over the vertices that follow, and in a closed line the one back to the first
-abbrev pub rest_covers : Bool → ℕ → DevicePoint → DevicePoint → List DevicePoint → ℕ → ℕ → Bool
+abbrev pub rest_covers : Bool → ℕ → DevicePoint → DevicePoint → List DevicePoint → PixelTest
 rest_covers closed w first from [] i j = closed && step_covers w from first i j
 rest_covers closed w first from (to ∷ rest) i j = step_covers w from to i j || rest_covers closed w first to rest i j
 
@@ -58,11 +62,11 @@ abbrev pub has_place : Area → Place → Bool
 has_place box place = (int_le box.minx place.x && int_le place.x box.maxx) && (int_le box.miny place.y && int_le place.y box.maxy)
 
 -- a step of a pen between two places covers a pixel
-abbrev pub pen_covers : PenValue → Place → Place → ℕ → ℕ → Bool
+abbrev pub pen_covers : PenValue → Place → Place → PixelTest
 pen_covers pen a b i j = step_covers pen.width (device_point pen.view a) (device_point pen.view b) i j
 
 -- one of the steps from a place over those that follow covers a pixel
-abbrev pub chain_covers : PenValue → Place → List Place → ℕ → ℕ → Bool
+abbrev pub chain_covers : PenValue → Place → List Place → PixelTest
 chain_covers pen from rest i j = rest_covers false pen.width (device_point pen.view from) (device_point pen.view from) (map (device_point pen.view) rest) i j
 
 -- a box lies in another one
