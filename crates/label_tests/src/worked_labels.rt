@@ -77,12 +77,14 @@ fn entry(row: &str) -> Option<Entry> {
     })
 }
 
-// The candidates that `;` parts. A malformed one ends a test as one for which memory is refused.
+// The candidates that `;` parts, one of them as often as a number after ` x` says. A malformed one ends a test as one for which memory is refused.
 fn entries(alloc: Global, list: &str) -> Result<Vec<Entry>, AllocError> {
     let mut entries = Vec::new(alloc);
     for row in list.split(';') {
-        let entry = entry(row).ok_or(AllocError)?;
-        entries.push(entry)?;
+        let (row, times) = row.split_once(" x").unwrap_or((row, "1"));
+        for _ in 0..times.parse::<usize>().unwrap_or(0) {
+            entries.push(entry(row).ok_or(AllocError)?)?;
+        }
     }
     Ok(entries)
 }
@@ -184,21 +186,6 @@ fn labels_stand_at_worked_corners(rt: HostRuntime) -> Result<(), TableFault> {
     check_rows(rt.alloc(), PLACED, '=', 43, result_of_row)
 }
 
-// Eighteen labels of one text are forced, the last two of them away from the others, and one more keeps its distance to
-// the seventeenth, to the eighteenth, and to one of the first sixteen; and then misses each by a pixel.
-const MANY_OF_ONE_TEXT: &str = "\
-18@1,1:1,1-4,3 17@3,1:3,1-6,3 16@5,1:5,1-8,3 15@7,1:7,1-10,3 14@9,1:9,1-12,3 13@11,1:11,1-14,3 12@13,1:13,1-16,3 11@15,1:15,1-18,3 10@17,1:17,1-20,3 9@19,1:19,1-22,3 8@21,1:21,1-24,3 7@23,1:23,1-26,3 6@25,1:25,1-28,3 5@27,1:27,1-30,3 4@29,1:29,1-32,3 3@31,1:31,1-34,3 2@9,19:9,19-12,21 1@29,29:29,29-32,31 0@12,23:12,23-15,25 =tiny 40|A 13 24 d5;A 30 30 F;A 10 20 F;A 32 2 F;A 30 2 F;A 28 2 F;A 26 2 F;A 24 2 F;A 22 2 F;A 20 2 F;A 18 2 F;A 16 2 F;A 14 2 F;A 12 2 F;A 10 2 F;A 8 2 F;A 6 2 F;A 4 2 F;A 2 2 F
-18@1,1:1,1-4,3 17@3,1:3,1-6,3 16@5,1:5,1-8,3 15@7,1:7,1-10,3 14@9,1:9,1-12,3 13@11,1:11,1-14,3 12@13,1:13,1-16,3 11@15,1:15,1-18,3 10@17,1:17,1-20,3 9@19,1:19,1-22,3 8@21,1:21,1-24,3 7@23,1:23,1-26,3 6@25,1:25,1-28,3 5@27,1:27,1-30,3 4@29,1:29,1-32,3 3@31,1:31,1-34,3 2@9,19:9,19-12,21 1@29,29:29,29-32,31 =tiny 40|A 13 24 d6;A 30 30 F;A 10 20 F;A 32 2 F;A 30 2 F;A 28 2 F;A 26 2 F;A 24 2 F;A 22 2 F;A 20 2 F;A 18 2 F;A 16 2 F;A 14 2 F;A 12 2 F;A 10 2 F;A 8 2 F;A 6 2 F;A 4 2 F;A 2 2 F
-18@1,1:1,1-4,3 17@3,1:3,1-6,3 16@5,1:5,1-8,3 15@7,1:7,1-10,3 14@9,1:9,1-12,3 13@11,1:11,1-14,3 12@13,1:13,1-16,3 11@15,1:15,1-18,3 10@17,1:17,1-20,3 9@19,1:19,1-22,3 8@21,1:21,1-24,3 7@23,1:23,1-26,3 6@25,1:25,1-28,3 5@27,1:27,1-30,3 4@29,1:29,1-32,3 3@31,1:31,1-34,3 2@9,19:9,19-12,21 1@29,29:29,29-32,31 0@24,17:24,17-27,19 =tiny 40|A 25 18 d13;A 30 30 F;A 10 20 F;A 32 2 F;A 30 2 F;A 28 2 F;A 26 2 F;A 24 2 F;A 22 2 F;A 20 2 F;A 18 2 F;A 16 2 F;A 14 2 F;A 12 2 F;A 10 2 F;A 8 2 F;A 6 2 F;A 4 2 F;A 2 2 F
-18@1,1:1,1-4,3 17@3,1:3,1-6,3 16@5,1:5,1-8,3 15@7,1:7,1-10,3 14@9,1:9,1-12,3 13@11,1:11,1-14,3 12@13,1:13,1-16,3 11@15,1:15,1-18,3 10@17,1:17,1-20,3 9@19,1:19,1-22,3 8@21,1:21,1-24,3 7@23,1:23,1-26,3 6@25,1:25,1-28,3 5@27,1:27,1-30,3 4@29,1:29,1-32,3 3@31,1:31,1-34,3 2@9,19:9,19-12,21 1@29,29:29,29-32,31 =tiny 40|A 25 18 d14;A 30 30 F;A 10 20 F;A 32 2 F;A 30 2 F;A 28 2 F;A 26 2 F;A 24 2 F;A 22 2 F;A 20 2 F;A 18 2 F;A 16 2 F;A 14 2 F;A 12 2 F;A 10 2 F;A 8 2 F;A 6 2 F;A 4 2 F;A 2 2 F
-18@1,1:1,1-4,3 17@3,1:3,1-6,3 16@5,1:5,1-8,3 15@7,1:7,1-10,3 14@9,1:9,1-12,3 13@11,1:11,1-14,3 12@13,1:13,1-16,3 11@15,1:15,1-18,3 10@17,1:17,1-20,3 9@19,1:19,1-22,3 8@21,1:21,1-24,3 7@23,1:23,1-26,3 6@25,1:25,1-28,3 5@27,1:27,1-30,3 4@29,1:29,1-32,3 3@31,1:31,1-34,3 2@9,19:9,19-12,21 1@29,29:29,29-32,31 0@7,9:7,9-10,11 =tiny 40|A 8 10 d8;A 30 30 F;A 10 20 F;A 32 2 F;A 30 2 F;A 28 2 F;A 26 2 F;A 24 2 F;A 22 2 F;A 20 2 F;A 18 2 F;A 16 2 F;A 14 2 F;A 12 2 F;A 10 2 F;A 8 2 F;A 6 2 F;A 4 2 F;A 2 2 F
-18@1,1:1,1-4,3 17@3,1:3,1-6,3 16@5,1:5,1-8,3 15@7,1:7,1-10,3 14@9,1:9,1-12,3 13@11,1:11,1-14,3 12@13,1:13,1-16,3 11@15,1:15,1-18,3 10@17,1:17,1-20,3 9@19,1:19,1-22,3 8@21,1:21,1-24,3 7@23,1:23,1-26,3 6@25,1:25,1-28,3 5@27,1:27,1-30,3 4@29,1:29,1-32,3 3@31,1:31,1-34,3 2@9,19:9,19-12,21 1@29,29:29,29-32,31 =tiny 40|A 8 10 d9;A 30 30 F;A 10 20 F;A 32 2 F;A 30 2 F;A 28 2 F;A 26 2 F;A 24 2 F;A 22 2 F;A 20 2 F;A 18 2 F;A 16 2 F;A 14 2 F;A 12 2 F;A 10 2 F;A 8 2 F;A 6 2 F;A 4 2 F;A 2 2 F";
-
-#[test]
-fn many_labels_of_one_text_keep_their_distance(rt: HostRuntime) -> Result<(), TableFault> {
-    check_rows(rt.alloc(), MANY_OF_ONE_TEXT, '=', 6, result_of_row)
-}
-
 // The result for the first candidate of a row: the corner of its text, or `-`.
 fn corner_of_first(alloc: Global, row: &str) -> Result<String, AllocError> {
     let labels = placed(alloc, row)?;
@@ -209,6 +196,21 @@ fn corner_of_first(alloc: Global, row: &str) -> Result<String, AllocError> {
         }
     }
     format!(in alloc; "-")
+}
+
+// 258 labels of one text are forced, the last two of them away from the others. One more keeps its distance to the 257th, to the 258th,
+// and to one of the first 256; and then misses each by a pixel.
+const MANY_OF_ONE_TEXT: &str = "\
+12,23=tiny 40|A 13 24 d5;A 30 30 F;A 10 20 F;A 8 2 F;A 2 2 F x255
+-=tiny 40|A 13 24 d6;A 30 30 F;A 10 20 F;A 8 2 F;A 2 2 F x255
+24,17=tiny 40|A 25 18 d13;A 30 30 F;A 10 20 F;A 8 2 F;A 2 2 F x255
+-=tiny 40|A 25 18 d14;A 30 30 F;A 10 20 F;A 8 2 F;A 2 2 F x255
+7,9=tiny 40|A 8 10 d8;A 30 30 F;A 10 20 F;A 8 2 F;A 2 2 F x255
+-=tiny 40|A 8 10 d9;A 30 30 F;A 10 20 F;A 8 2 F;A 2 2 F x255";
+
+#[test]
+fn many_labels_of_one_text_keep_their_distance(rt: HostRuntime) -> Result<(), TableFault> {
+    check_rows(rt.alloc(), MANY_OF_ONE_TEXT, '=', 6, corner_of_first)
 }
 
 // Each row keeps the text from one position more: by a label that overlaps none that are tried later.

@@ -10,8 +10,8 @@ use geom::Pixel;
 use std::alloc::{AllocError, Global};
 use std::marker::Model;
 
-// How many anchors of a text are compared one by one. No cell is marked for them. Most texts have one anchor.
-const FEW: usize = 16;
+// How many anchors of a text are compared one by one, which takes less than a search in cells. No cell is marked for them.
+const FEW: usize = 256;
 
 /// The anchors of the labels of one text, in the order in which they were added: the first few, and the others.
 #[derive(Drop)]
