@@ -27,7 +27,7 @@ southward view a b extent le = sixteenths-rising view.height (view.area.maxy -�
     (omega (arith, ints, extent.rows)) (omega (arith, ints, rising-law view.heights b.y a.y le))
 
 -- where a box lies beyond a side, each place in it does
-beyond : (view : ViewValue) (box : Area) (limit : ℤ) (side : Side) (place : Place) → IsExtent view.area → HasPlace box place → box_reaches view box limit side ≡ false →
+pub beyond : (view : ViewValue) (box : Area) (limit : ℤ) (side : Side) (place : Place) → IsExtent view.area → HasPlace box place → box_reaches view box limit side ≡ false →
     is_within side limit (device_point view place) ≡ false
 beyond view box limit Right place extent inside h =
     let corner : Place = record { x = box.minx; y = box.miny } in

@@ -1,10 +1,12 @@
 mod BlocksReaching
+mod FewEdges
 mod Firsts
 mod InWindow
 mod ItemLines
 mod OneHitList
 mod PointsNear
 mod Reaching
+mod SkippedBlocks
 mod Spans
 mod Tolerances
 mod Wanted

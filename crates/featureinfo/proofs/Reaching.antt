@@ -1,5 +1,5 @@
 -- What covers a pixel near the queried one has a vertex on each side of the pixels near it, or within them.
-use Rattle.std.proofs.Common.{◌≡◌, ◌∙◌, ℕ, ◌+◌, ◌*◌, ◌<◌, ◌≤◌, Bool, true, false, ◌||◌, List, [], ◌∷◌, map, refl, ap, sym, arith, ⊎_elim}
+use Rattle.std.proofs.Common.{◌≡◌, ◌∙◌, ℕ, ◌+◌, ◌*◌, ◌≤◌, Bool, true, false, ◌||◌, List, [], ◌∷◌, map, refl, ap, sym, arith, ⊎_elim}
 use Rattle.std.proofs.lemmas.Bool.{and_parts}
 use Rattle.std.proofs.lemmas.Int.{ints}
 use Rattle.std.proofs.lemmas.List.Folds.{list_any-append}
@@ -24,6 +24,7 @@ use Rattle.vertices.proofs.NearEdges.{parts-fail}
 use Rattle.vertices.proofs.NearLines.{bottom-segment, left-segment, right-segment, segments-edges, squares-points, top-segment}
 use Rattle.vertices.proofs.NearShapes.{above-fails, below-fails, left-inside, none-inside, right-fails}
 use Rattle.featureinfo.specs.Hits.{covers_plainly}
+use Rattle.featureinfo.specs.Nearby.{IsOf}
 use Rattle.featureinfo.specs.Reach.{is_far, is_within, limit_of, reaches}
 use Rattle.featureinfo.specs.declared.nearby.Nearby.{Nearby}
 use Rattle.featureinfo.specs.declared.side.Side.{Side}
@@ -53,13 +54,6 @@ mapped {X} {Y} g f (part ∷ parts) = rw (one part, mapped g f parts) refl
     one : (xs : List X) → list_any f (map g xs) ≡ list_any (λ x. f (g x)) xs
     one [] = refl
     one (x ∷ xs) = ap (λ b. f (g x) || b) (one xs)
-
--- the pixel in a column and a row is one of those near
-pub record IsOf (n : Nearby) (c r : ℕ) : Type 0 where
-  pub left : n.left ≤ c
-  pub right : c < n.right
-  pub top : n.top ≤ r
-  pub bottom : r < n.bottom
 
 module _ (view : ViewValue) (parts : List (List Place)) (n : Nearby) (c r : ℕ) (of : IsOf n c r) where
   -- vertices that lie on the near side of the pixel's centre, by 16 at most, are within the limit

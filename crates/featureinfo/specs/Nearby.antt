@@ -32,6 +32,13 @@ part_near view part n = list_any (λ place. has_pixel n (pixel_of (device_point 
 abbrev pub points_near : ViewValue → List (List Place) → Nearby → Bool
 points_near view parts n = list_any (λ part. part_near view part n) parts
 
+-- the pixel in a column and a row is one of the near ones
+pub record IsOf (n : Nearby) (column row : ℕ) : Type 0 where
+  pub left : n.left ≤ column
+  pub right : column < n.right
+  pub top : n.top ≤ row
+  pub bottom : row < n.bottom
+
 -- one of the near pixels passes a test of its column and its row
 pub record SomeNear (n : Nearby) (test : ℕ → ℕ → Bool) : Type 0 where
   pub column : ℕ

@@ -6,12 +6,12 @@ ghost use Rattle.mapdefs.specs.declared.layer.Geometry.TheVariants.{Line as Line
 ghost use Rattle.featureinfo.specs.Hits.{AreFirstAmong, AreHitsOf, IsClassedNear, IsHitAt, covers_plainly};
 ghost use Rattle.featureinfo.specs.Nearby.{SomeNear, part_near, points_near};
 
+use crate::few_edges::{NearPixels, near_polygon};
 use crate::nearby::Nearby;
 use crate::reach::is_far;
 use geom::World;
 use mapdefs::{FeatureFields, Geometry, Items, LayerFields, Map, Near, Part, Shared};
 use scaledenom::Scale;
-use scanfill::Polygon;
 use scene::Scene;
 use std::alloc::{AllocError, Global};
 use strokes::Line;
@@ -69,9 +69,12 @@ fn polygon_near(
     requires height { nearby.bottom ≤ MAX_PICTURE_SIDE }
     ensures { IfOk result (λ hit. IsTrue hit ↔ SomeNear nearby (covers_plainly scene.now.view PolygonKind parts.now)) }
 {
-    let rings = scene.points_of(alloc, parts)?;
-    let polygon = Polygon::new(alloc, &rings)?;
-    nearby.meets_cover(alloc, &polygon, scene.projection().width())
+    let near = NearPixels {
+        projection: scene.projection(),
+        nearby,
+    };
+    let polygon = near_polygon(alloc, &near, parts)?;
+    nearby.meets_cover(alloc, &polygon, near.projection.width())
 }
 
 // Whether the plain cover of a line has one of the near pixels.

@@ -10,8 +10,8 @@ use mapdefs::{BlockBox, Part, split_block};
 use vertices::Block;
 use viewport::Projection;
 
-// Half a pixel beyond a side of the pixels, in sixteenths of a pixel.
-fn limit_of(nearby: Nearby, side: Side) -> i64
+/// Half a pixel beyond a side of the pixels, in sixteenths of a pixel.
+pub fn limit_of(nearby: Nearby, side: Side) -> i64
     ensures { result ≡ limit_of nearby side }
 {
     match side {
@@ -43,8 +43,8 @@ fn vertices_reach(projection: &Projection, vertices: &[World], limit: i64, side:
         .any(|place| is_within(side, limit, projection.device(*place)))
 }
 
-// Whether a box doesn't lie as a whole beyond that side.
-fn box_reaches(projection: &Projection, area: BlockBox, limit: i64, side: Side) -> bool
+/// Whether a box doesn't lie as a whole beyond that side.
+pub fn box_reaches(projection: &Projection, area: BlockBox, limit: i64, side: Side) -> bool
     ensures value { result ≡ box_reaches projection.now area limit side }
     ensures limits { IsExtent projection.now.area }
 {

@@ -1,14 +1,16 @@
-use Rattle.std.proofs.Common.{◌∙◌, ◌↔◌, List, map, ap, subst, IfOk, IsTrue}
-use Rattle.std.specs.Prelude.{vec_items}
-use lib.IntN.{pos}
-use Rattle.geom.specs.Device.{pixel_centre}
-use Rattle.geom.specs.Edge.{EdgeEnds}
-use Rattle.geom.specs.EvenOdd.{edges, is_covered}
-use Rattle.featureinfo.specs.Nearby.{SomeNear}
+use Rattle.std.proofs.Common.{subst}
+use Rattle.std.proofs.lemmas.Result.{IfOk-weaker}
+use Rattle.geom.specs.EvenOdd.{edges}
+use Rattle.viewport.specs.View.{ViewValue, points_of}
+use Rattle.featureinfo.specs.FewEdges.{CoverAlike}
+use Rattle.featureinfo.proofs.FewEdges.{near-alike}
 use Rattle.featureinfo.proofs.layer_hits.polygon_near.Goals as goal
 
 pub returns : goal.returns
 returns c =
-    subst (λ (es : List EdgeEnds). IfOk c.meets_cover.result (λ hit. IsTrue hit ↔ SomeNear c.args.nearby (λ i j. is_covered es (pixel_centre (pos i) (pos j)))))
-    (c.in_ok-polygon.ensures ∙ ap edges (ap (map vec_items) c.deref.ensures.value ∙ c.in_ok-rings.ensures))
-    c.meets_cover.ensures
+    let n = c.args.nearby in
+    let parts = c.args.parts.now in
+    let view = c.args.scene.now.view in
+    let alike : CoverAlike n c.in_ok-polygon.polygon (edges (points_of view parts)) =
+    subst (λ (v : ViewValue). CoverAlike n c.in_ok-polygon.polygon (edges (points_of v parts))) c.projection.ensures c.in_ok-polygon.ensures in
+    IfOk-weaker c.meets_cover.result _ _ (λ hit says. near-alike n c.in_ok-polygon.polygon (edges (points_of view parts)) hit alike says) c.meets_cover.ensures
