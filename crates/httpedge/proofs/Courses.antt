@@ -7,12 +7,12 @@ use Rattle.httpedge.specs.Connection.{Progress, Open, Decided, Course, LeavesOpe
 use Rattle.httpedge.specs.Head.{IsTargetOf}
 use Rattle.httpedge.specs.Exchange.{Said, IsReply, IsExchange, IsBegun}
 use Rattle.httpedge.specs.Meaning.{decision_meaning}
-use Rattle.httpedge.specs.Serving.{IsOpen, IsReading, HasCome, came_of, requests_left, missing}
+use Rattle.httpedge.specs.Serving.{IsOpen, IsReading, HasCome, came_of, requests_left, rest_of_course, missing}
 use Rattle.httpedge.specs.Verdict.{Decides}
 use Rattle.httpedge.specs.declared.conn.TheConstants.{REQUESTS}
 use Rattle.httpedge.specs.declared.decision.Decision.{Decision}
 use Rattle.httpedge.proofs.Heads.{nothing-headless}
-use Rattle.httpedge.proofs.Serving.{come-more, come-next, come-last, come-broken}
+use Rattle.httpedge.proofs.Serving.{come-more, come-next, come-last, come-broken, so_far, rest_by}
 
 -- a connection to which nothing came is open
 pub nothing-open : LeavesOpen []
@@ -30,7 +30,7 @@ none-by (Some x) other = absurd (other x refl)
 
 -- where nothing is decided, all of the piece was taken
 pub more-came : {A : Type 0} (answers : A → List ℕ → Said → A → Type 0) (n k : ℕ) (read said piece : List ℕ) (first now : A) (p q : Progress) (taken : ℕ) → IsOpen p → Feeds p piece taken q → step_of q ≡ None →
-    HasCome answers n read first said k (came_of p) now → IsOpen q × HasCome answers n (read ++ piece) first said k (came_of q) now
+    HasCome answers n (so_far read first said) (rest_by k (came_of p) now) → IsOpen q × HasCome answers n (so_far (read ++ piece) first said) (rest_by k (came_of q) now)
 more-came answers n k read said piece first now (Open came) (Open bytes) taken opened feeds step come =
     let long : length piece ≤ taken = elim (leb_tells (length piece) taken) [
       | inl h ↦ h.1
@@ -103,8 +103,8 @@ less-missing old new nothing less reading =
 pub next-came : {A : Type 0} (answers : A → List ℕ → Said → A → Type 0) (n : ℕ) (read said rest reply : List ℕ) (first now between : A) (old fed new : Course) (taken : ℕ) (d : Decision) (on : Bool) →
     IsReading old → Feeds old.progress rest taken fed.progress → fed.done ≡ old.done → step_of fed.progress ≡ Some d →
     IsReply answers (is_closing fed) (decision_meaning d (target_of fed.progress)) now reply between → on ≡ goes_on fed → on ≡ true → new ≡ (if goes_on fed then forgotten fed else fed) →
-    HasCome answers n read first said (requests_left old) (came_of old.progress) now →
-    IsReading new × HasCome answers n (read ++ take taken rest) first (said ++ reply) (requests_left new) (came_of new.progress) between × (missing new < missing old)
+    HasCome answers n (so_far read first said) (rest_of_course old now) →
+    IsReading new × HasCome answers n (so_far (read ++ take taken rest) first (said ++ reply)) (rest_of_course new between) × (missing new < missing old)
 next-came answers n read said rest reply first now between old fed new taken d on reading feeds same step replies goes yes_on next come =
     let decided = decided-by old.progress fed.progress rest taken d reading.opened feeds step in
     let free = neither decided.closes (fed.done + 1 == REQUESTS) (sym (going-is fed decided.closes d decided.is) ∙ sym goes ∙ yes_on) in
@@ -118,7 +118,7 @@ next-came answers n read said rest reply first now between old fed new taken d o
       | inl h ↦ absurd (let e : fed.done + 1 ≡ REQUESTS = omega (arith, h.1, below, same) in let f : (REQUESTS == REQUESTS) ≡ false = subst (λ (m : ℕ). (m == REQUESTS) ≡ false) e free.1 in cc)
       | inr h ↦ omega (arith, h.1)
     ] in
-    let c : HasCome answers n read first said (suc k) (came_of old.progress) now = subst (λ (m : ℕ). HasCome answers n read first said m (came_of old.progress) now) left come in
+    let c : HasCome answers n (so_far read first said) (rest_by (suc k) (came_of old.progress) now) = subst (λ (m : ℕ). HasCome answers n (so_far read first said) (rest_by m (came_of old.progress) now)) left come in
     let r : IsReply answers false (decision_meaning d (target_of fed.progress)) now reply between = subst (λ (b : Bool). IsReply answers b (decision_meaning d (target_of fed.progress)) now reply between) open_still replies in
     let decides : Decides (came_of old.progress ++ take taken rest) false (decision_meaning d (target_of fed.progress)) = subst (λ (b : Bool). Decides (came_of old.progress ++ take taken rest) b (decision_meaning d (target_of fed.progress))) free.0 decided.decides in
     rw is (record { count = more; opened = nothing-open }, come-next answers n k read (came_of old.progress) (take taken rest) said reply first now between (decision_meaning d (target_of fed.progress)) c decides some r, less-missing old (forgotten fed) refl (omega (arith, left)) reading)
@@ -127,7 +127,7 @@ next-came answers n read said rest reply first now between old fed new taken d o
 pub last-came : {A : Type 0} (answers : A → List ℕ → Said → A → Type 0) (n : ℕ) (read said rest reply : List ℕ) (first now last : A) (old fed : Course) (taken : ℕ) (d : Decision) (on : Bool) →
     IsReading old → Feeds old.progress rest taken fed.progress → fed.done ≡ old.done → step_of fed.progress ≡ Some d →
     IsReply answers (is_closing fed) (decision_meaning d (target_of fed.progress)) now reply last → on ≡ goes_on fed → on ≡ false →
-    HasCome answers n read first said (requests_left old) (came_of old.progress) now →
+    HasCome answers n (so_far read first said) (rest_of_course old now) →
     (more : List ℕ) → IsExchange answers n ((read ++ take taken rest) ++ more) first (said ++ reply) last
 last-came answers n read said rest reply first now last old fed taken d on reading feeds same step replies goes off come =
     let decided = decided-by old.progress fed.progress rest taken d reading.opened feeds step in
@@ -136,7 +136,7 @@ last-came answers n read said rest reply first now last old fed taken d on readi
     let k = REQUESTS - (fed.done + 1) in
     let left : requests_left old ≡ suc k = omega (arith, below, same) in
     let at_last : (decided.closes || (k == 0)) ≡ true = ap (λ (b : Bool). decided.closes || b) (sym (is-last fed.done (omega (arith, below, same)))) ∙ ends in
-    let c : HasCome answers n read first said (suc k) (came_of old.progress) now = subst (λ (m : ℕ). HasCome answers n read first said m (came_of old.progress) now) left come in
+    let c : HasCome answers n (so_far read first said) (rest_by (suc k) (came_of old.progress) now) = subst (λ (m : ℕ). HasCome answers n (so_far read first said) (rest_by m (came_of old.progress) now)) left come in
     let closed : is_closing fed ≡ true = closing-is fed decided.closes d decided.is ∙ ends in
     let r : IsReply answers true (decision_meaning d (target_of fed.progress)) now reply last = subst (λ (b : Bool). IsReply answers b (decision_meaning d (target_of fed.progress)) now reply last) closed replies in
     come-last answers n k read (came_of old.progress) (take taken rest) said reply first now last decided.closes (decision_meaning d (target_of fed.progress)) c decided.decides at_last r
@@ -145,14 +145,14 @@ last-came answers n read said rest reply first now last old fed taken d on readi
 pub broken-came : {A : Type 0} (answers : A → List ℕ → Said → A → Type 0) (n : ℕ) (read said rest reply : List ℕ) (first now last : A) (old fed : Course) (taken : ℕ) (d : Decision) →
     IsReading old → Feeds old.progress rest taken fed.progress → fed.done ≡ old.done → step_of fed.progress ≡ Some d →
     IsReply answers (is_closing fed) (decision_meaning d (target_of fed.progress)) now reply last →
-    HasCome answers n read first said (requests_left old) (came_of old.progress) now →
+    HasCome answers n (so_far read first said) (rest_of_course old now) →
     (more : List ℕ) → IsBegun answers n ((read ++ take taken rest) ++ more) first (said ++ reply) last
 broken-came answers n read said rest reply first now last old fed taken d reading feeds same step replies come =
     let decided = decided-by old.progress fed.progress rest taken d reading.opened feeds step in
     let below : old.done < REQUESTS = reading.count in
     let k = REQUESTS - (fed.done + 1) in
     let left : requests_left old ≡ suc k = omega (arith, below, same) in
-    let c : HasCome answers n read first said (suc k) (came_of old.progress) now = subst (λ (m : ℕ). HasCome answers n read first said m (came_of old.progress) now) left come in
+    let c : HasCome answers n (so_far read first said) (rest_by (suc k) (came_of old.progress) now) = subst (λ (m : ℕ). HasCome answers n (so_far read first said) (rest_by m (came_of old.progress) now)) left come in
     let closed : is_closing fed ≡ (decided.closes || (k == 0)) = closing-is fed decided.closes d decided.is ∙ ap (λ (b : Bool). decided.closes || b) (is-last fed.done (omega (arith, below, same))) in
     come-broken answers n k read (came_of old.progress) (take taken rest) said reply first now last decided.closes (is_closing fed) (decision_meaning d (target_of fed.progress)) c decided.decides closed replies
 

@@ -14,7 +14,7 @@ use Rattle.httpedge.specs.declared.conn.TheConstants.{REQUESTS}
 use Rattle.httpedge.specs.declared.edge.EdgeFault.TheVariants.{Read, Write}
 use Rattle.httpedge.specs.Turn.{IsTurn, Last}
 use Rattle.httpedge.specs.declared.decision.Decision.{Decision}
-use Rattle.httpedge.proofs.Serving.{begun-nothing}
+use Rattle.httpedge.proofs.Serving.{begun-nothing, so_far, rest_by}
 
 -- nothing came
 pub end-nothing : {A : Type 0} (answers : A → List ℕ → Said → A → Type 0) (n : ℕ) (p q : Progress) (now : A) → IsOpen p → Ends p q → step_of q ≡ None → IsExchange answers (suc n) (came_of p) now [] now
@@ -45,7 +45,7 @@ whatever-follows (Some x) None bytes P read all = absurd read
 whatever-follows (Some x) (Some y) bytes P read all = subst P (sym read) (all y)
 
 -- the text sent so far was begun, whatever follows
-pub come-begun : {A : Type 0} (answers : A → List ℕ → Said → A → Type 0) (n k : ℕ) (read came said : List ℕ) (first now : A) → HasCome answers n read first said k came now →
+pub come-begun : {A : Type 0} (answers : A → List ℕ → Said → A → Type 0) (n k : ℕ) (read came said : List ℕ) (first now : A) → HasCome answers n (so_far read first said) (rest_by k came now) →
     (more : List ℕ) → IsBegun answers n (read ++ more) first said now
 come-begun answers n k read came said first now come more =
     subst (λ (l : List ℕ). IsBegun answers n (read ++ more) first l now) (append-nil said) (come.begun more [] now (begun-nothing answers k (came ++ more) now))
@@ -62,7 +62,7 @@ opened-leaves (Decided closes decided target) opened = absurd opened
 
 module _ {A S : Type 0} (answers : A → List ℕ → Said → A → Type 0) (known : Sink S) (effect : Effect A S) where
   -- the reader failed: the text sent so far was written
-  pub read-stopped : (a b : Option (List ℕ)) (read came text : List ℕ) (k written : ℕ) → Consumes a b read → HasCome answers REQUESTS read effect.asker text k came effect.asks
+  pub read-stopped : (a b : Option (List ℕ)) (read came text : List ℕ) (k written : ℕ) → Consumes a b read → HasCome answers REQUESTS (so_far read effect.asker text) (rest_by k came effect.asks)
       → IsSent known.held known.taken effect.before text effect.after → written ≡ length text → IfSome a (λ stream. HasStopped (Read written) answers known stream effect)
   read-stopped a b read came text k written consumed come sent count =
       whatever-follows a b read (λ stream. HasPaused answers known stream effect written) consumed

@@ -11,7 +11,7 @@ use Rattle.httpedge.specs.Exchange.{Said, IsReply, IsExchange, IsBegun}
 use Rattle.httpedge.specs.Head.{IsTargetOf}
 use Rattle.httpedge.specs.Response.{HasStatus, body_text, head_end, outcome_status, refusal_lines, busy_lines, refusal_text, response}
 use Rattle.httpedge.specs.Meaning.{Meaning, Nothing, Refused, Asks, decision_meaning}
-use Rattle.httpedge.specs.Serving.{IsOpen, IsReading, HasCome, came_of, requests_left}
+use Rattle.httpedge.specs.Serving.{IsOpen, IsReading, HasCome, came_of, requests_left, rest_of_course}
 use Rattle.httpedge.specs.Session.{SessionState, HasResponded, HasRespondedAt, HasRespondedWith, QueryOutcome, HasAsked, says_as_listed, wants, ReadsOn, is_reading, stage_after, is_done, new_session}
 use Rattle.httpedge.specs.declared.conn.TheConstants.{REQUESTS}
 use Rattle.httpedge.specs.declared.decision.Decision.{Decision}
@@ -23,7 +23,7 @@ use Rattle.httpedge.specs.declared.refusal.Refusal.TheVariants.{BadRequest, NotF
 use Rattle.httpedge.specs.declared.stage.Stage.{Stage}
 use Rattle.httpedge.specs.declared.stage.Stage.TheVariants.{Reading, Closed, Ended}
 use Rattle.httpedge.proofs.Courses.{next-came, last-came, more-came}
-use Rattle.httpedge.proofs.Serving.{come-first}
+use Rattle.httpedge.proofs.Serving.{come-first, so_far, rest_by}
 use Rattle.httpedge.proofs.Ending.{end-nothing, end-replied, come-ended, come-begun}
 
 -- where a session takes further bytes, heads are read and nothing is to be sent
@@ -88,19 +88,19 @@ opened-by s inside old out stage status view forgets wanted reads = record {
 
 -- the bytes that came while heads were read and nothing was to be sent
 reading-came : {A : Type 0} (answers : A → List ℕ → Said → A → Type 0) (s : SessionState) (old : Course) → IsOpened s old → (read written : List ℕ) (first now : A) → HasResponded answers read first written s now →
-    HasCome answers REQUESTS read first written (requests_left old) (came_of old.progress) now
+    HasCome answers REQUESTS (so_far read first written) (rest_of_course old now)
 reading-came answers s old opened read written first now responded =
     let (reads, quiet) = wants-reads s.stage s.outgoing opened.wanted in
-    let open_still : HasRespondedAt Reading answers read first (written ++ s.outgoing) s.course now = subst (λ (t : Stage). HasRespondedAt t answers read first (written ++ s.outgoing) s.course now) reads responded in
+    let open_still : HasRespondedAt Reading answers (so_far read first (written ++ s.outgoing)) s.course now = subst (λ (t : Stage). HasRespondedAt t answers (so_far read first (written ++ s.outgoing)) s.course now) reads responded in
     let all : written ++ s.outgoing ≡ written = ap (λ l. written ++ l) quiet ∙ append-nil written in
-    let here : HasCome answers REQUESTS read first written (requests_left s.course) (came_of s.course.progress) now =
-    subst (λ (l : List ℕ). HasCome answers REQUESTS read first l (requests_left s.course) (came_of s.course.progress) now) all open_still in
-    subst (λ (c : Course). HasCome answers REQUESTS read first written (requests_left c) (came_of c.progress) now) opened.at here
+    let here : HasCome answers REQUESTS (so_far read first written) (rest_of_course s.course now) =
+    subst (λ (l : List ℕ). HasCome answers REQUESTS (so_far read first l) (rest_of_course s.course now)) all open_still in
+    subst (λ (c : Course). HasCome answers REQUESTS (so_far read first written) (rest_of_course c now)) opened.at here
 
 -- what holds of a session after a head that was answered
 pub responded-by : {A : Type 0} (answers : A → List ℕ → Said → A → Type 0) (s : SessionState) (old fed : Course) → IsOpened s old → (piece : List ℕ) (taken : ℕ) (now between : A) (reply : List ℕ) → HasReplied answers piece taken old fed now reply between →
     (closing : Bool) (stage : Stage) → closing ≡ is_closing fed → stage ≡ stage_after closing →
-    (read written : List ℕ) (first : A) → HasResponded answers read first written s now → HasRespondedAt stage answers (read ++ take taken piece) first (written ++ reply) (settled fed) between
+    (read written : List ℕ) (first : A) → HasResponded answers read first written s now → HasRespondedAt stage answers (so_far (read ++ take taken piece) first (written ++ reply)) (settled fed) between
 responded-by answers s old fed opened piece taken now between reply r true stage e is read written first responded =
     rw is (last-came answers REQUESTS read written piece reply first now between old fed taken r.decision (goes_on fed) r.reading r.feeds r.done r.step r.replies refl (stops fed.progress (is_closing fed) e)
     (reading-came answers s old opened read written first now responded))
@@ -129,15 +129,15 @@ reads-more s old fed opened piece taken stage same feeds done step =
 
 pub responded-more : {A : Type 0} (answers : A → List ℕ → Said → A → Type 0) (s : SessionState) (old fed : Course) → IsOpened s old → (piece : List ℕ) (taken : ℕ) (stage : Stage) (out : List ℕ) (now : A) →
     stage ≡ s.stage → out ≡ s.outgoing → Feeds old.progress piece taken fed.progress → fed.done ≡ old.done → step_of fed.progress ≡ None →
-    (read written : List ℕ) (first : A) → HasResponded answers read first written s now → HasRespondedAt stage answers (read ++ take taken piece) first (written ++ out) (settled fed) now
+    (read written : List ℕ) (first : A) → HasResponded answers read first written s now → HasRespondedAt stage answers (so_far (read ++ take taken piece) first (written ++ out)) (settled fed) now
 responded-more answers s old fed opened piece taken stage out now stages outs feeds done step read written first responded =
     let (reads, quiet) = wants-reads s.stage s.outgoing opened.wanted in
     let come = reading-came answers s old opened read written first now responded in
     let all : take taken piece ≡ piece = take_all taken piece (omega (arith, feeds-all old.progress fed.progress piece taken opened.reading.opened feeds step)) in
     let (leaves, further) = more-came answers REQUESTS (requests_left old) read written piece first now old.progress fed.progress taken opened.reading.opened feeds step come in
     let nothing : written ++ out ≡ written = ap (λ l. written ++ l) (outs ∙ quiet) ∙ append-nil written in
-    let counted : HasCome answers REQUESTS (read ++ piece) first written (requests_left fed) (came_of fed.progress) now =
-    subst (λ (d : ℕ). HasCome answers REQUESTS (read ++ piece) first written (REQUESTS - d) (came_of fed.progress) now) (sym done) further in
+    let counted : HasCome answers REQUESTS (so_far (read ++ piece) first written) (rest_of_course fed now) =
+    subst (λ (d : ℕ). HasCome answers REQUESTS (so_far (read ++ piece) first written) (rest_by (REQUESTS - d) (came_of fed.progress) now)) (sym done) further in
     rw (settled-open fed step, stages, reads, all, nothing) counted
 
 -- the queries that the answerer got
@@ -207,7 +207,7 @@ end-silent answers old q now reading ends step =
 
 -- what holds of a session whose stream ended
 pub responded-ended : (s : SessionState) (old new : Course) → IsOpened s old → (text : List ℕ) → ((later : List QueryOutcome) → IsExchange says_as_listed (requests_left old) (came_of old.progress) later text later) →
-    (read written : List ℕ) (queries : List QueryOutcome) → HasRespondedWith read queries written s → (later : List QueryOutcome) → HasRespondedAt Ended says_as_listed read (queries ++ later) (written ++ text) new later
+    (read written : List ℕ) (queries : List QueryOutcome) → HasRespondedWith read queries written s → (later : List QueryOutcome) → HasRespondedAt Ended says_as_listed (so_far read (queries ++ later) (written ++ text)) new later
 responded-ended s old new opened text ends read written queries responded later =
     let come = reading-came says_as_listed s old opened read written (queries ++ later) later (responded later) in
     come-ended (IsExchange says_as_listed) REQUESTS (requests_left old) read (came_of old.progress) written text (queries ++ later) later later come.answered (ends later)
@@ -236,7 +236,7 @@ pub law-done : (s : SessionState) (read written : List ℕ) (queries : List Quer
 law-done s read written queries done responded =
     subst (λ (h : List QueryOutcome). IsExchange says_as_listed REQUESTS read h written []) (append-nil queries) (go s.stage s.outgoing s.course done (responded []))
   where
-    go : (stage : Stage) (out : List ℕ) (course : Course) → (not (is_reading stage) && (length out == 0)) ≡ true → HasRespondedAt stage says_as_listed read (queries ++ []) (written ++ out) course [] → IsExchange says_as_listed REQUESTS read (queries ++ []) written []
+    go : (stage : Stage) (out : List ℕ) (course : Course) → (not (is_reading stage) && (length out == 0)) ≡ true → HasRespondedAt stage says_as_listed (so_far read (queries ++ []) (written ++ out)) course [] → IsExchange says_as_listed REQUESTS read (queries ++ []) written []
     go Reading out course e at = absurd (cc)
     go Closed [] course e at =
         subst (λ (l : List ℕ). IsExchange says_as_listed REQUESTS read (queries ++ []) l []) (append-nil written)
@@ -249,13 +249,13 @@ pub law-begun : (s : SessionState) (read written more : List ℕ) (queries : Lis
 law-begun s read written more queries reads responded =
     subst (λ (h : List QueryOutcome). IsBegun says_as_listed REQUESTS (read ++ more) h (written ++ s.outgoing) []) (append-nil queries) (go s.stage s.course reads (responded []))
   where
-    go : (stage : Stage) (course : Course) → is_reading stage ≡ true → HasRespondedAt stage says_as_listed read (queries ++ []) (written ++ s.outgoing) course [] → IsBegun says_as_listed REQUESTS (read ++ more) (queries ++ []) (written ++ s.outgoing) []
+    go : (stage : Stage) (course : Course) → is_reading stage ≡ true → HasRespondedAt stage says_as_listed (so_far read (queries ++ []) (written ++ s.outgoing)) course [] → IsBegun says_as_listed REQUESTS (read ++ more) (queries ++ []) (written ++ s.outgoing) []
     go Reading course e at = come-begun says_as_listed REQUESTS (requests_left course) read (came_of course.progress) (written ++ s.outgoing) (queries ++ []) [] at more
     go Closed course e at = absurd (cc)
     go Ended course e at = absurd (cc)
 
 pub law-closed : (s : SessionState) (read written more : List ℕ) (queries : List QueryOutcome) → s.stage ≡ Closed → HasRespondedWith read queries written s → IsExchange says_as_listed REQUESTS (read ++ more) queries (written ++ s.outgoing) []
 law-closed s read written more queries closed responded =
-    let at : HasRespondedAt Closed says_as_listed read (queries ++ []) (written ++ s.outgoing) s.course [] =
-    subst (λ (t : Stage). HasRespondedAt t says_as_listed read (queries ++ []) (written ++ s.outgoing) s.course []) closed (responded []) in
+    let at : HasRespondedAt Closed says_as_listed (so_far read (queries ++ []) (written ++ s.outgoing)) s.course [] =
+    subst (λ (t : Stage). HasRespondedAt t says_as_listed (so_far read (queries ++ []) (written ++ s.outgoing)) s.course []) closed (responded []) in
     subst (λ (h : List QueryOutcome). IsExchange says_as_listed REQUESTS (read ++ more) h (written ++ s.outgoing) []) (append-nil queries) (at more)

@@ -19,6 +19,7 @@ use Rattle.httpedge.specs.Turn.{Turn, Last, Further, headless_turn}
 use Rattle.httpedge.specs.declared.conn.TheConstants.{REQUESTS}
 use Rattle.httpedge.specs.declared.refusal.Refusal.TheVariants.{BadRequest}
 use Rattle.httpedge.proofs.Heads.{head-prefix, head-more, nothing-headless}
+use Rattle.httpedge.proofs.Serving.{so_far, rest_by}
 
 -- each prefix of bytes that leave a stream open does so
 prefixes-leave-open : (prefix more : List ℕ) → LeavesOpen (prefix ++ more) → LeavesOpen prefix
@@ -73,7 +74,7 @@ none-wanted = record {
 }
 
 -- where the connection needs a further read, a read is needed
-pub wants-now : {A : Type 0} (answers : A → List ℕ → Said → A → Type 0) (n k : ℕ) (read said came : List ℕ) (first now : A) → HasCome answers n read first said k came now → 0 < k → LeavesOpen came → Wants n read
+pub wants-now : {A : Type 0} (answers : A → List ℕ → Said → A → Type 0) (n k : ℕ) (read said came : List ℕ) (first now : A) → HasCome answers n (so_far read first said) (rest_by k came now) → 0 < k → LeavesOpen came → Wants n read
 unfolding Wants
 wants-now answers n zero read said came first now come some leaves = absurd (omega (arith, some))
 wants-now answers n (suc k) read said came first now come some leaves =

@@ -4,7 +4,7 @@ use Rattle.httpedge.specs.Connection.{Course, Open}
 use Rattle.httpedge.specs.Exchange.{Said, IsExchange}
 use Rattle.httpedge.specs.Head.{IsTargetOf}
 use Rattle.httpedge.specs.Response.{HasStatus}
-use Rattle.httpedge.specs.Serving.{IsReading, HasCome, requests_left, came_of}
+use Rattle.httpedge.specs.Serving.{ExchangeSoFar, IsReading, HasCome, rest_of_course}
 use Rattle.httpedge.specs.declared.conn.TheConstants.{REQUESTS}
 use Rattle.httpedge.specs.declared.stage.Stage.{Stage}
 use Rattle.httpedge.specs.declared.stage.Stage.TheVariants.{Reading, Closed, Ended}
@@ -47,15 +47,16 @@ ReadsOn Reading course = IsReading course
 ReadsOn Closed course = Unit {0}
 ReadsOn Ended course = Unit {0}
 
--- the heads in the bytes `read` are answered by `said`: further ones may come; or that is all, whatever follows; or that is all, and nothing follows
-abbrev pub HasRespondedAt : {A : Type 0} → Stage → (A → List ℕ → Said → A → Type 0) → List ℕ → A → List ℕ → Course → A → Type 0
-HasRespondedAt Reading answers read first said course now = HasCome answers REQUESTS read first said (requests_left course) (came_of course.progress) now
-HasRespondedAt Closed answers read first said course now = (more : List ℕ) → IsExchange answers REQUESTS (read ++ more) first said now
-HasRespondedAt Ended answers read first said course now = IsExchange answers REQUESTS read first said now
+-- the heads that were read so far are answered: further ones may come; or that is all, whatever follows; or that is all, and nothing follows
+abbrev pub HasRespondedAt : {A : Type 0} → Stage → (A → List ℕ → Said → A → Type 0) → ExchangeSoFar A → Course → A → Type 0
+HasRespondedAt Reading answers so_far course now = HasCome answers REQUESTS so_far (rest_of_course course now)
+HasRespondedAt Closed answers so_far course now = (more : List ℕ) → IsExchange answers REQUESTS (so_far.read ++ more) so_far.first so_far.said now
+HasRespondedAt Ended answers so_far course now = IsExchange answers REQUESTS so_far.read so_far.first so_far.said now
 
 -- the bytes `read` were taken, and `written` was sent: `written` and the bytes that are to be sent answer them
 abbrev pub HasResponded : {A : Type 0} → (A → List ℕ → Said → A → Type 0) → List ℕ → A → List ℕ → SessionState → A → Type 0
-HasResponded answers read first written state now = HasRespondedAt state.stage answers read first (written ++ state.outgoing) state.course now
+HasResponded answers read first written state now =
+    HasRespondedAt state.stage answers (record { read = read; first = first; said = written ++ state.outgoing }) state.course now
 
 -- the response that is to be sent has this status, and the request that it answers, of which these bytes came, this target
 abbrev pub HasNamed : List ℕ → SessionState → Type 0

@@ -45,7 +45,8 @@ pub record HasKeptUp {A S : Type 0} (answers : A → List ℕ → Said → A →
   pub text : List ℕ
   pub left : ℕ
   pub came : List ℕ
-  pub come : HasCome answers REQUESTS read effect.asker text left came effect.asks
+  pub come : HasCome answers REQUESTS (record { read = read; first = effect.asker; said = text })
+      (record { requests = left; came = came; now = effect.asks })
   pub open_rest : LeavesOpen came
   pub sent : IsSent known.held known.taken effect.before text effect.after
 

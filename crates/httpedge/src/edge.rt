@@ -61,7 +61,9 @@ impl EdgeFault {
 
 // The outcome of a query.
 fn ask<A: Asks>(asks: &mut A, query: &[u8]) -> Outcome
-    ensures { (said : Result Answer Busy) × A.answers asks.old query.now said asks.new × ((closing : Bool) → response result closing ≡ said_text said closing) }
+    ensures { (said : Result Answer Busy)
+        × A.answers asks.old query.now said asks.new
+        × ((closing : Bool) → response result closing ≡ said_text said closing) }
 {
     match asks.answer(query) {
         Ok(answer) => Outcome::Answered(answer),
@@ -73,7 +75,8 @@ fn ask<A: Asks>(asks: &mut A, query: &[u8]) -> Outcome
 pub(crate) fn outcome<A: Asks>(conn: &Conn, decision: Decision, asks: &mut A) -> Outcome
     requires decided { step_of conn.now.progress ≡ Some decision }
     ensures { (closing : Bool)
-        → IsReply A.answers closing (decision_meaning decision (target_of conn.now.progress)) asks.old (response result closing) asks.new }
+        → IsReply A.answers closing (decision_meaning decision (target_of conn.now.progress))
+        asks.old (response result closing) asks.new }
 {
     match decision {
         Decision::Ask => ask(asks, conn.query()),
@@ -90,12 +93,15 @@ fn answer<W: Sink, A: Asks>(
 ) -> Result<bool, PutFailed>
     requires decided { step_of conn.old.progress ≡ Some decision }
     ensures sent { OnOk result ((text : List ℕ) × IsSent W.held W.taken writer.old text writer.new
-        × IsReply A.answers (is_closing conn.old) (decision_meaning decision (target_of conn.old.progress)) asks.old text asks.new) }
+        × IsReply A.answers (is_closing conn.old) (decision_meaning decision (target_of conn.old.progress))
+        asks.old text asks.new) }
     ensures cut { OnErr result ((text : List ℕ) × IsCutSomewhere W.held W.taken writer.old text writer.new
-        × IsReply A.answers (is_closing conn.old) (decision_meaning decision (target_of conn.old.progress)) asks.old text asks.new) }
+        × IsReply A.answers (is_closing conn.old) (decision_meaning decision (target_of conn.old.progress))
+        asks.old text asks.new) }
     ensures next { IfOk result (λ on. on ≡ goes_on conn.old) }
     ensures forgets { OnOk result (conn.new ≡ settled conn.old) }
-    ensures flag { MatchResult result (λ _. W.put_failed writer.new ≡ W.put_failed writer.old) (λ _. W.put_failed writer.new ≡ true) }
+    ensures flag { MatchResult result (λ _. W.put_failed writer.new ≡ W.put_failed writer.old)
+        (λ _. W.put_failed writer.new ≡ true) }
 {
     let (outgoing, _) = reply(conn, decision, asks);
     let (head, body) = outgoing.parts();
@@ -113,11 +119,15 @@ fn answer_piece<W: Sink, A: Asks>(
     requires reading { IsReading conn.old }
     requires some { 0 < length piece.now }
     ensures serves { IfOk result (λ on. (text : List ℕ) × IsSent W.held W.taken writer.old text writer.new
-        × Serves on A.answers (requests_left conn.old) (came_of conn.old.progress ++ piece.now) asks.old text conn.new asks.new) }
+        × Serves on A.answers (requests_left conn.old)
+        (record { read = came_of conn.old.progress ++ piece.now; first = asks.old; said = text }) conn.new asks.new) }
     ensures less { IfOk result (λ on. on ≡ true → missing conn.new < missing conn.old) }
     ensures cut { OnErr result ((text : List ℕ) × IsCutSomewhere W.held W.taken writer.old text writer.new
-        × ((more : List ℕ) → IsBegun A.answers (requests_left conn.old) ((came_of conn.old.progress ++ piece.now) ++ more) asks.old text asks.new)) }
-    ensures flag { MatchResult result (λ _. W.put_failed writer.new ≡ W.put_failed writer.old) (λ _. W.put_failed writer.new ≡ true) }
+        × ((more : List ℕ)
+        → IsBegun A.answers (requests_left conn.old) ((came_of conn.old.progress ++ piece.now) ++ more)
+        asks.old text asks.new)) }
+    ensures flag { MatchResult result (λ _. W.put_failed writer.new ≡ W.put_failed writer.old)
+        (λ _. W.put_failed writer.new ≡ true) }
 {
     let mut rest = piece;
     loop {
@@ -144,7 +154,8 @@ fn answer_end<W: Sink, A: Asks>(
         × IsExchange A.answers (requests_left conn.old) (came_of conn.old.progress) asks.old text asks.new) }
     ensures cut { OnErr result ((text : List ℕ) × IsCutSomewhere W.held W.taken writer.old text writer.new
         × IsBegun A.answers (requests_left conn.old) (came_of conn.old.progress) asks.old text asks.new) }
-    ensures flag { MatchResult result (λ _. W.put_failed writer.new ≡ W.put_failed writer.old) (λ _. W.put_failed writer.new ≡ true) }
+    ensures flag { MatchResult result (λ _. W.put_failed writer.new ≡ W.put_failed writer.old)
+        (λ _. W.put_failed writer.new ≡ true) }
 {
     match conn.end() {
         None => Ok(()),
@@ -175,8 +186,10 @@ pub fn exchange<R: Source, W: Sink, A: Asks>(
         (record { asker = asks.old; asks = asks.new; before = writer.old; after = writer.new }))) }
     ensures stopped { IfErr result (λ fault. IfSome (R.left reader.old) (λ stream. HasStopped fault A.answers ⟦<W as Sink>⟧ stream
         (record { asker = asks.old; asks = asks.new; before = writer.old; after = writer.new }))) }
-    ensures kept_up { IfErr result (λ fault. is_read fault ≡ true → (read : List ℕ) × Consumes (R.left reader.old) (R.left reader.new) read
-        × HasKeptUp A.answers ⟦<W as Sink>⟧ read (record { asker = asks.old; asks = asks.new; before = writer.old; after = writer.new })) }
+    ensures kept_up { IfErr result (λ fault. is_read fault ≡ true → (read : List ℕ)
+        × Consumes (R.left reader.old) (R.left reader.new) read
+        × HasKeptUp A.answers ⟦<W as Sink>⟧ read
+        (record { asker = asks.old; asks = asks.new; before = writer.old; after = writer.new })) }
     ensures written { IfErr result (λ fault. W.taken writer.new ≡ W.taken writer.old + written_of fault) }
     ensures read_flag { MatchResult result (λ _. R.take_failed reader.new ≡ R.take_failed reader.old)
         (λ fault. R.take_failed reader.new ≡ (is_read fault || R.take_failed reader.old)) }

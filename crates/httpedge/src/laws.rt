@@ -50,11 +50,16 @@ pub fn prefixes_want()
 /// reads, what it sent and is to send is a prefix of every answer to them, whatever follows.
 pub fn session_answers()
     ensures starts { HasRespondedWith [] [] [] new_session }
-    ensures done { (s : SessionState) (read written : List ℕ) (queries : List QueryOutcome) → is_done s ≡ true → HasRespondedWith read queries written s
+    ensures done { (s : SessionState) (read written : List ℕ) (queries : List QueryOutcome)
+        → is_done s ≡ true
+        → HasRespondedWith read queries written s
         → IsExchange says_as_listed REQUESTS read queries written [] }
-    ensures begun { (s : SessionState) (read written more : List ℕ) (queries : List QueryOutcome) → is_reading s.stage ≡ true
+    ensures begun { (s : SessionState) (read written more : List ℕ) (queries : List QueryOutcome)
+        → is_reading s.stage ≡ true
         → HasRespondedWith read queries written s
         → IsBegun says_as_listed REQUESTS (read ++ more) queries (written ++ s.outgoing) [] }
-    ensures closed { (s : SessionState) (read written more : List ℕ) (queries : List QueryOutcome) → s.stage ≡ Closed → HasRespondedWith read queries written s
+    ensures closed { (s : SessionState) (read written more : List ℕ) (queries : List QueryOutcome)
+        → s.stage ≡ Closed
+        → HasRespondedWith read queries written s
         → IsExchange says_as_listed REQUESTS (read ++ more) queries (written ++ s.outgoing) [] }
 {}

@@ -69,9 +69,14 @@ fn send_body<'a, W: Sink>(
     closing: bool,
     writer: &mut W,
 ) -> Result<(), PutFailed>
-    ensures sent { OnOk result (IsSent W.held W.taken writer.old (body_text (mime_text answer.now.mime) count.now answer.now.body closing) writer.new) }
-    ensures cut { OnErr result (IsCutSomewhere W.held W.taken writer.old (body_text (mime_text answer.now.mime) count.now answer.now.body closing) writer.new) }
-    ensures flag { MatchResult result (λ _. W.put_failed writer.new ≡ W.put_failed writer.old) (λ _. W.put_failed writer.new ≡ true) }
+    ensures sent { OnOk result
+        (IsSent W.held W.taken writer.old
+        (body_text (mime_text answer.now.mime) count.now answer.now.body closing) writer.new) }
+    ensures cut { OnErr result
+        (IsCutSomewhere W.held W.taken writer.old
+        (body_text (mime_text answer.now.mime) count.now answer.now.body closing) writer.new) }
+    ensures flag { MatchResult result (λ _. W.put_failed writer.new ≡ W.put_failed writer.old)
+        (λ _. W.put_failed writer.new ≡ true) }
 {
     put_pieces(
         writer,
@@ -91,7 +96,8 @@ fn send_body<'a, W: Sink>(
 fn send_answer<W: Sink>(answer: &Answer, closing: bool, writer: &mut W) -> Result<(), PutFailed>
     ensures sent { OnOk result (IsSent W.held W.taken writer.old (answer_text answer.now closing) writer.new) }
     ensures cut { OnErr result (IsCutSomewhere W.held W.taken writer.old (answer_text answer.now closing) writer.new) }
-    ensures flag { MatchResult result (λ _. W.put_failed writer.new ≡ W.put_failed writer.old) (λ _. W.put_failed writer.new ≡ true) }
+    ensures flag { MatchResult result (λ _. W.put_failed writer.new ≡ W.put_failed writer.old)
+        (λ _. W.put_failed writer.new ≡ true) }
 {
     let mut digits = Buffer::new();
     let count = digits.format(answer.body.len() as u64).as_bytes();
@@ -102,7 +108,8 @@ fn send_answer<W: Sink>(answer: &Answer, closing: bool, writer: &mut W) -> Resul
 fn send<W: Sink>(outcome: &Outcome, closing: bool, writer: &mut W) -> Result<(), PutFailed>
     ensures sent { OnOk result (IsSent W.held W.taken writer.old (response outcome.now closing) writer.new) }
     ensures cut { OnErr result (IsCutSomewhere W.held W.taken writer.old (response outcome.now closing) writer.new) }
-    ensures flag { MatchResult result (λ _. W.put_failed writer.new ≡ W.put_failed writer.old) (λ _. W.put_failed writer.new ≡ true) }
+    ensures flag { MatchResult result (λ _. W.put_failed writer.new ≡ W.put_failed writer.old)
+        (λ _. W.put_failed writer.new ≡ true) }
 {
     match outcome {
         Outcome::Answered(answer) => send_answer(answer, closing, writer),
@@ -119,8 +126,10 @@ fn send<W: Sink>(outcome: &Outcome, closing: bool, writer: &mut W) -> Result<(),
 /// It takes no memory.
 pub fn respond<W: Sink>(outcome: &Outcome, closing: bool, writer: &mut W) -> Result<(), WriteFault>
     ensures sent { OnOk result (IsSent W.held W.taken writer.old (response outcome.now closing) writer.new) }
-    ensures cut { IfErr result (λ fault. IsCut W.held W.taken writer.old (response outcome.now closing) fault.written writer.new) }
-    ensures flag { MatchResult result (λ _. W.put_failed writer.new ≡ W.put_failed writer.old) (λ _. W.put_failed writer.new ≡ true) }
+    ensures cut { IfErr result
+        (λ fault. IsCut W.held W.taken writer.old (response outcome.now closing) fault.written writer.new) }
+    ensures flag { MatchResult result (λ _. W.put_failed writer.new ≡ W.put_failed writer.old)
+        (λ _. W.put_failed writer.new ≡ true) }
 {
     let before = writer.taken();
     match send(outcome, closing, writer) {

@@ -18,7 +18,8 @@ use std::marker::Model;
 /// The response to a decision, and its status.
 pub(crate) fn reply<A: Asks>(conn: &Conn, decision: Decision, asks: &mut A) -> (Outgoing, u16)
     requires decided { step_of conn.now.progress ≡ Some decision }
-    ensures replies { IsReply A.answers (is_closing conn.now) (decision_meaning decision (target_of conn.now.progress)) asks.old result.0 asks.new }
+    ensures replies { IsReply A.answers (is_closing conn.now) (decision_meaning decision (target_of conn.now.progress))
+        asks.old result.0 asks.new }
     ensures status { HasStatus result.0 result.1 }
 {
     let outcome = outcome(conn, decision, asks);
@@ -29,7 +30,8 @@ pub(crate) fn reply<A: Asks>(conn: &Conn, decision: Decision, asks: &mut A) -> (
 // The response at the end of a stream: bytes without a head are refused.
 fn end_reply(conn: &mut Conn) -> Outgoing
     requires reading { IsReading conn.old }
-    ensures answers { (later : List QueryOutcome) → IsExchange says_as_listed (requests_left conn.old) (came_of conn.old.progress) later result later }
+    ensures answers { (later : List QueryOutcome)
+        → IsExchange says_as_listed (requests_left conn.old) (came_of conn.old.progress) later result later }
     ensures status { (length result == 0) ≡ false → HasStatus result 400 }
     ensures target { IsTargetOf (came_of conn.old.progress) (target_of conn.new.progress) }
 {
@@ -70,7 +72,13 @@ impl Model for Session {
 
     ghost Value = { SessionState };
 
-    ghost view = { λ s. record { course = settled s.conn; outgoing = s.outgoing; stage = s.stage; target = target_of s.conn.progress; status = s.status } };
+    ghost view = { λ s. record {
+      course = settled s.conn;
+      outgoing = s.outgoing;
+      stage = s.stage;
+      target = target_of s.conn.progress;
+      status = s.status;
+    } };
 
     ghost invariant = { λ s. ReadsOn s.stage (settled s.conn) };
 }

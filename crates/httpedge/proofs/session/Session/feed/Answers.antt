@@ -5,6 +5,7 @@ use Rattle.httpedge.specs.Serving.{came_of}
 use Rattle.httpedge.specs.Session.{SessionState, HasRespondedAt, QueryOutcome, says_as_listed, wants}
 use Rattle.httpedge.proofs.Courses.{decided-target, none-by}
 use Rattle.httpedge.proofs.Sessions.{HasReplied, opened-by, reads-by, reads-more, responded-by, responded-more, replied-queries}
+use Rattle.httpedge.proofs.Serving.{so_far}
 use Rattle.httpedge.proofs.session.Session.feed.Goals as goal
 
 pub invariant_of-self : goal.invariant_of-self
@@ -52,7 +53,7 @@ returns-in-Some-clause-said g c =
       queries,
       asked,
       λ read written earlier responded later.
-          subst (λ (first : List QueryOutcome). HasRespondedAt c.stage_after-self-inside.result says_as_listed (read ++ take c.feed-fed.result.taken c.args.piece.now) first (written ++ c.reply-outgoing.result.0) (settled c.feed-fed.new.self) later)
+          subst (λ (first : List QueryOutcome). HasRespondedAt c.stage_after-self-inside.result says_as_listed (so_far (read ++ take c.feed-fed.result.taken c.args.piece.now) first (written ++ c.reply-outgoing.result.0)) (settled c.feed-fed.new.self) later)
           (sym (append_assoc earlier queries later))
           (responded-by says_as_listed c.args.self.now c.next.new.self c.feed-fed.new.self opened c.args.piece.now c.feed-fed.result.taken (queries ++ later) later c.reply-outgoing.result.0 (replied later)
           c.closing.result c.stage_after-self-inside.result c.closing.ensures c.stage_after-self-inside.ensures read written (earlier ++ (queries ++ later)) (responded (queries ++ later))),
@@ -68,7 +69,7 @@ returns-in_default-clause-said g c =
       [],
       inl (refl, refl),
       λ read written earlier responded later.
-          subst (λ (first : List QueryOutcome). HasRespondedAt c.self.inside.stage says_as_listed (read ++ take c.feed-fed.result.taken c.args.piece.now) (first ++ later) (written ++ c.self.inside.outgoing) (settled c.feed-fed.new.self) later)
+          subst (λ (first : List QueryOutcome). HasRespondedAt c.self.inside.stage says_as_listed (so_far (read ++ take c.feed-fed.result.taken c.args.piece.now) (first ++ later) (written ++ c.self.inside.outgoing)) (settled c.feed-fed.new.self) later)
           (sym (append-nil earlier))
           (responded-more says_as_listed c.args.self.now c.next.new.self c.feed-fed.new.self opened c.args.piece.now c.feed-fed.result.taken c.self.inside.stage c.self.inside.outgoing later stage out
           c.feed-fed.ensures.feeds c.feed-fed.ensures.done step read written (earlier ++ later) (responded later)),
