@@ -6,15 +6,16 @@ use Rattle.std.specs.Prelude.{IfNone, IfSome, nat_lt, if◌then◌else◌}
 use Rattle.httpedge.specs.Exchange.{Said}
 use Rattle.httpedge.specs.Session.{QueryOutcome, HasAsked, HasRespondedWith, SessionState, new_session}
 use Rattle.turns.specs.Advancing.{IsNext, HasServed}
-use Rattle.turns.specs.Connection.{IsTurn, next_by}
+use Rattle.turns.specs.Connection.{ConnectionState, IsTurn, connection_state, next_by}
 use Rattle.turns.specs.Drain.{next_drained, phase_drained}
 use Rattle.turns.proofs.Order.{has-joined, has-joins}
 use Rattle.turns.specs.Queue.{has, joined, joins, before}
 use Rattle.turns.specs.Runs.{Step, Opens, Wakes, Serves, Leaves, IsNew, SlotTurn, IsTurnOf, Steps, Runs, WorkerState, comes, all_come, AreSaid, IsAnswered, IsQuiet, IsKept, RunsAnswer, RunsServe, TurnsStay, HasRun, turns_of}
-use Rattle.turns.specs.Slots.{at_slot, HasTurn}
-use Rattle.turns.specs.Table.{Goes, connections, ready_slots, waiting_slots, has_room, KeepsWaiting}
+use Rattle.turns.specs.Slots.{SlotState, at_slot, slot_state, HasTurn}
+use Rattle.turns.specs.Table.{Goes, connections, ready_slots, waiting_slots, conditions_at, KeepsWaiting}
 use Rattle.turns.specs.Times.{is_over, is_draining}
 use Rattle.turns.specs.declared.open_connection.OpenConnection.{OpenConnection}
+use Rattle.turns.specs.declared.open_connection.TurnConditions.{TurnConditions}
 use Rattle.turns.specs.declared.outcomes.ReadOutcome.{ReadOutcome}
 use Rattle.turns.specs.declared.outcomes.ReadOutcome.TheVariants as read
 use Rattle.turns.specs.declared.table.ConnectionTable.{ConnectionTable}
@@ -84,11 +85,11 @@ module _ {A T : Type 0} (answers : A → List ℕ → Said → A → Type 0) (kn
   }
 
   -- so it is after a turn
-  turn-answered : (may_ask : Bool) (now : ℕ) (first old new : OpenConnection T) (asker asks : A) (result : Next) → IsAnswered answers known first old
-      → IsTurn answers known may_ask now old asker new asks result → IsAnswered answers known first new
-  turn-answered may_ask now first old new asker asks result was turn = go (is_over old.phase) refl (is_draining old.phase) refl
+  turn-answered : (conditions : TurnConditions) (first : OpenConnection T) (old new : ConnectionState A T) (result : Next) → IsAnswered answers known first old.connection
+      → IsTurn answers known conditions old new result → IsAnswered answers known first new.connection
+  turn-answered conditions first old new result was turn = go (is_over old.connection.phase) refl (is_draining old.connection.phase) refl
     where
-      go : (over : Bool) → is_over old.phase ≡ over → (draining : Bool) → is_draining old.phase ≡ draining → IsAnswered answers known first new
+      go : (over : Bool) → is_over old.connection.phase ≡ over → (draining : Bool) → is_draining old.connection.phase ≡ draining → IsAnswered answers known first new.connection
       go true over draining drains = subst (λ (c : OpenConnection T). IsAnswered answers known first c) (sym (turn.over over).0) was
       go false over true drains =
           let d = (turn.drained drains).0 in
@@ -99,27 +100,27 @@ module _ {A T : Type 0} (answers : A → List ℕ → Said → A → Type 0) (kn
             front = was.front;
             rest = was.rest ++ d.came;
             is = ap (λ l. l ++ d.came) was.is ∙ append_assoc was.front was.rest d.came;
-            came = Appends-trans (known.delivered first.transport) (known.delivered old.transport) (known.delivered new.transport) was.read d.came was.came d.gave;
-            went = rw (append-nil was.written) at (Appends-trans (known.accepted first.transport) (known.accepted old.transport) (known.accepted new.transport) was.written [] was.went d.writes);
+            came = Appends-trans (known.delivered first.transport) (known.delivered old.connection.transport) (known.delivered new.connection.transport) was.read d.came was.came d.gave;
+            went = rw (append-nil was.written) at (Appends-trans (known.accepted first.transport) (known.accepted old.connection.transport) (known.accepted new.connection.transport) was.written [] was.went d.writes);
             said = was.said;
             responded = subst (λ (s : SessionState). HasRespondedWith was.front was.queries was.written s) (sym d.session) was.responded;
-            left = λ ends drained. absurd (drained-goes-on result old.phase drains (rw d.time at ends) (rw d.time at drained));
+            left = λ ends drained. absurd (drained-goes-on result old.connection.phase drains (rw d.time at ends) (rw d.time at drained));
           }
       go false over false drains =
           let s = turn.served over drains in
           let (rest, ended) = was.left over drains in
-          let holds : HasServed was.read was.queries was.written old.exchange = (was.front, was.is ∙ ap (λ l. was.front ++ l) rest, was.responded, ended) in
+          let holds : HasServed was.read was.queries was.written old.connection.exchange = (was.front, was.is ∙ ap (λ l. was.front ++ l) rest, was.responded, ended) in
           let (front, is, responded, ends) = s.advances.keeps was.read was.written was.queries holds in
           record {
             read = was.read ++ s.advances.came;
             written = was.written ++ s.advances.went;
             queries = was.queries ++ s.advances.queries;
             front = front;
-            rest = new.exchange.buffer;
+            rest = new.connection.exchange.buffer;
             is = is;
-            came = Appends-trans (known.delivered first.transport) (known.delivered old.transport) (known.delivered new.transport) was.read s.advances.came was.came s.advances.reads;
-            went = Appends-trans (known.accepted first.transport) (known.accepted old.transport) (known.accepted new.transport) was.written s.advances.went was.went s.advances.writes;
-            said = said-then answers was.queries s.advances.queries was.said (said-once answers asker asks s.advances.queries s.advances.says);
+            came = Appends-trans (known.delivered first.transport) (known.delivered old.connection.transport) (known.delivered new.connection.transport) was.read s.advances.came was.came s.advances.reads;
+            went = Appends-trans (known.accepted first.transport) (known.accepted old.connection.transport) (known.accepted new.connection.transport) was.written s.advances.went was.went s.advances.writes;
+            said = said-then answers was.queries s.advances.queries was.said (said-once answers old.asks new.asks s.advances.queries s.advances.says);
             responded = responded;
             left = λ over drained. (refl, ends);
           }
@@ -128,42 +129,42 @@ module _ {A T : Type 0} (answers : A → List ℕ → Said → A → Type 0) (kn
   over-quiet new phase is over = inl (ap is_over is ∙ over)
 
   -- after a turn a connection has a further one, waits for room, or has nothing to do
-  turn-held : (may_ask : Bool) (now : ℕ) (old new : OpenConnection T) (asker asks : A) (result : Next) → IsTurn answers known may_ask now old asker new asks result
-      → (result ≡ next.Turn) ⊎ ((result ≡ next.Room) ⊎ IsQuiet known new)
-  turn-held may_ask now old new asker asks result turn = go (is_over old.phase) refl (is_draining old.phase) refl
+  turn-held : (conditions : TurnConditions) (old new : ConnectionState A T) (result : Next) → IsTurn answers known conditions old new result
+      → (result ≡ next.Turn) ⊎ ((result ≡ next.Room) ⊎ IsQuiet known new.connection)
+  turn-held conditions old new result turn = go (is_over old.connection.phase) refl (is_draining old.connection.phase) refl
     where
-      drained : (outcome : ReadOutcome) (dropped : ℕ) → result ≡ next_drained outcome dropped → new.phase ≡ phase_drained result old.phase → known.reads old.transport outcome new.transport → (outcome ≡ read.WouldBlock → new.exchange.buffer ≡ [])
-          → (result ≡ next.Turn) ⊎ ((result ≡ next.Room) ⊎ IsQuiet known new)
+      drained : (outcome : ReadOutcome) (dropped : ℕ) → result ≡ next_drained outcome dropped → new.connection.phase ≡ phase_drained result old.connection.phase → known.reads old.connection.transport outcome new.connection.transport → (outcome ≡ read.WouldBlock → new.connection.exchange.buffer ≡ [])
+          → (result ≡ next.Turn) ⊎ ((result ≡ next.Room) ⊎ IsQuiet known new.connection)
       drained (read.Bytes n) dropped is time one idle = more (nat_lt Rattle.turns.specs.declared.drained.TheConstants.MAX_DRAINED_BYTES dropped) is
         where
-          more : (b : Bool) → result ≡ (if b then next.Done else next.Turn) → (result ≡ next.Turn) ⊎ ((result ≡ next.Room) ⊎ IsQuiet known new)
-          more true done = inr (inr (over-quiet new Phase.Over (rw done at time) refl))
+          more : (b : Bool) → result ≡ (if b then next.Done else next.Turn) → (result ≡ next.Turn) ⊎ ((result ≡ next.Room) ⊎ IsQuiet known new.connection)
+          more true done = inr (inr (over-quiet new.connection Phase.Over (rw done at time) refl))
           more false goes = inl goes
-      drained read.WouldBlock dropped is time one idle = inr (inr (inr (inl (old.transport, one, idle refl))))
-      drained read.End dropped is time one idle = inr (inr (over-quiet new Phase.Over (rw is at time) refl))
-      drained read.Failed dropped is time one idle = inr (inr (over-quiet new Phase.Over (rw is at time) refl))
+      drained read.WouldBlock dropped is time one idle = inr (inr (inr (inl (old.connection.transport, one, idle refl))))
+      drained read.End dropped is time one idle = inr (inr (over-quiet new.connection Phase.Over (rw is at time) refl))
+      drained read.Failed dropped is time one idle = inr (inr (over-quiet new.connection Phase.Over (rw is at time) refl))
 
-      served : (turned : Next) (phase : Phase) → result ≡ next_by turned → (turned ≡ next.Failed → new.phase ≡ Phase.Over) → IsNext known may_ask result new.exchange new.transport
-          → (result ≡ next.Turn) ⊎ ((result ≡ next.Room) ⊎ IsQuiet known new)
+      served : (turned : Next) (phase : Phase) → result ≡ next_by turned → (turned ≡ next.Failed → new.connection.phase ≡ Phase.Over) → IsNext known conditions.may_ask result new.connection.exchange new.connection.transport
+          → (result ≡ next.Turn) ⊎ ((result ≡ next.Room) ⊎ IsQuiet known new.connection)
       served next.Turn phase is over waits = inl is
       served next.Readable phase is over waits =
-          let (before, read, wants, empty) = subst (λ (r : Next). IsNext known may_ask r new.exchange new.transport) is waits in
+          let (before, read, wants, empty) = subst (λ (r : Next). IsNext known conditions.may_ask r new.connection.exchange new.connection.transport) is waits in
           inr (inr (inr (inl (before, read, empty))))
       served next.Writable phase is over waits =
-          let (before, written, owes) = subst (λ (r : Next). IsNext known may_ask r new.exchange new.transport) is waits in
+          let (before, written, owes) = subst (λ (r : Next). IsNext known conditions.may_ask r new.connection.exchange new.connection.transport) is waits in
           inr (inr (inr (inr (before, written, owes))))
       served next.Room phase is over waits = inr (inl is)
       served next.Done phase is over waits = inl is
-      served next.Failed phase is over waits = inr (inr (over-quiet new Phase.Over (over refl) refl))
+      served next.Failed phase is over waits = inr (inr (over-quiet new.connection Phase.Over (over refl) refl))
 
-      go : (over : Bool) → is_over old.phase ≡ over → (draining : Bool) → is_draining old.phase ≡ draining → (result ≡ next.Turn) ⊎ ((result ≡ next.Room) ⊎ IsQuiet known new)
+      go : (over : Bool) → is_over old.connection.phase ≡ over → (draining : Bool) → is_draining old.connection.phase ≡ draining → (result ≡ next.Turn) ⊎ ((result ≡ next.Room) ⊎ IsQuiet known new.connection)
       go true over draining drains = inr (inr (inl (ap (λ (c : OpenConnection T). is_over c.phase) (turn.over over).0 ∙ over)))
       go false over true drains =
           let d = (turn.drained drains).0 in
-          drained d.outcome new.dropped d.next d.time d.one_read d.idle
+          drained d.outcome new.connection.dropped d.next d.time d.one_read d.idle
       go false over false drains =
           let s = turn.served over drains in
-          served s.turned.next old.phase s.next (λ failed. rw failed at s.time) s.waits
+          served s.turned.next old.connection.phase s.next (λ failed. rw failed at s.time) s.waits
 
   abbrev Kept : (ℕ → Option (OpenConnection T)) → ConnectionTable T → Type 0
   Kept found table = (slot : ℕ) (now : OpenConnection T) → at_slot (connections table) slot ≡ Some now → IsKept answers known found table slot now
@@ -213,14 +214,14 @@ module _ {A T : Type 0} (answers : A → List ℕ → Said → A → Type 0) (kn
           still found (comes found (Leaves slot why)) old.table new.table other now refl (goes-ready old.table new.table goes other) goes.keeps (kept other now (sym (others other apart) ∙ at))
   step-keeps starts found old new (Serves turn) had kept other now at = go (turn.slot == other) refl
     where
-      own : (r : Option Next) → turn.next ≡ r → turn.slot ≡ other → IfSome r (λ next. HasTurn answers known (has_room old.table) turn.now turn.slot (connections old.table) old.asks (connections new.table) new.asks next)
+      own : (r : Option Next) → turn.next ≡ r → turn.slot ≡ other → IfSome r (λ next. HasTurn answers known (conditions_at old.table turn.now) (slot_state (connections old.table) turn.slot old.asks) (slot_state (connections new.table) turn.slot new.asks) next)
           → IfNone r ((connections new.table ≡ connections old.table) × (new.asks ≡ old.asks)) → IfNone r (at_slot (connections old.table) turn.slot ≡ None)
           → IsKept answers known (comes found (Serves turn)) new.table other now
       own None none equal nothing (stay, still_asks) free = absurd (let clash : ◌≡◌ {A = Option (OpenConnection T)} None (Some now) = sym free ∙ ap (at_slot (connections old.table)) equal ∙ ap (λ l. at_slot l other) (sym stay) ∙ at in cc clash)
       own (Some next) is equal one nobody empty =
           let same : one.after ≡ now = cc (one.is, at, equal) in
           let before = kept turn.slot one.before one.was in
-          let held : (has turn.slot (ready_slots new.table) ≡ true) ⊎ ((has turn.slot (waiting_slots new.table) ≡ true) ⊎ IsQuiet known one.after) = elim (turn-held (has_room old.table) turn.now one.before one.after old.asks new.asks next one.turn) [
+          let held : (has turn.slot (ready_slots new.table) ≡ true) ⊎ ((has turn.slot (waiting_slots new.table) ≡ true) ⊎ IsQuiet known one.after) = elim (turn-held (conditions_at old.table turn.now) (connection_state one.before old.asks) (connection_state one.after new.asks) next one.turn) [
             | inl again ↦ inl (had.turns (is ∙ ap Some again))
             | inr (inl room) ↦ elim (had.waits (is ∙ ap Some room)) [
               | inl ready ↦ inl ready
@@ -231,7 +232,7 @@ module _ {A T : Type 0} (answers : A → List ℕ → Said → A → Type 0) (kn
           let all : IsKept answers known found new.table turn.slot one.after = record {
             first = before.first;
             came = before.came;
-            answered = turn-answered (has_room old.table) turn.now before.first one.before one.after old.asks new.asks next before.answered one.turn;
+            answered = turn-answered (conditions_at old.table turn.now) before.first (connection_state one.before old.asks) (connection_state one.after new.asks) next before.answered one.turn;
             held = held;
           } in
           subst (λ (k : ℕ). IsKept answers known found new.table k now) equal (subst (λ (c : OpenConnection T). IsKept answers known found new.table turn.slot c) same all)
@@ -296,11 +297,11 @@ module _ {A T : Type 0} (answers : A → List ℕ → Said → A → Type 0) (kn
           rw e (further (rw had.later (has-joins slot had.rest had.slots behind)))
 
   -- in a turn at most one query was asked
-  turn-asks : (may_ask : Bool) (now : ℕ) (old new : OpenConnection T) (asker asks : A) (result : Next) → IsTurn answers known may_ask now old asker new asks result
-      → (queries : List QueryOutcome) × HasAsked answers asker queries asks
-  turn-asks may_ask now old new asker asks result turn = go (is_over old.phase) refl (is_draining old.phase) refl
+  turn-asks : (conditions : TurnConditions) (old new : ConnectionState A T) (result : Next) → IsTurn answers known conditions old new result
+      → (queries : List QueryOutcome) × HasAsked answers old.asks queries new.asks
+  turn-asks conditions old new result turn = go (is_over old.connection.phase) refl (is_draining old.connection.phase) refl
     where
-      go : (over : Bool) → is_over old.phase ≡ over → (draining : Bool) → is_draining old.phase ≡ draining → (queries : List QueryOutcome) × HasAsked answers asker queries asks
+      go : (over : Bool) → is_over old.connection.phase ≡ over → (draining : Bool) → is_draining old.connection.phase ≡ draining → (queries : List QueryOutcome) × HasAsked answers old.asks queries new.asks
       go true over draining drains = let (same, still, failed) = turn.over over in ([], inl (refl, still))
       go false over true drains = ([], inl (refl, (turn.drained drains).1))
       go false over false drains = let s = turn.served over drains in (s.advances.queries, s.advances.says)
@@ -308,10 +309,10 @@ module _ {A T : Type 0} (answers : A → List ℕ → Said → A → Type 0) (kn
   pub turned-asks : (old new : WorkerState A T) (turn : SlotTurn) → IsTurnOf answers known old turn new → (queries : List QueryOutcome) × HasAsked answers old.asks queries new.asks
   turned-asks old new turn had = go turn.next had.own had.nobody
     where
-      go : (r : Option Next) → IfSome r (λ next. HasTurn answers known (has_room old.table) turn.now turn.slot (connections old.table) old.asks (connections new.table) new.asks next)
+      go : (r : Option Next) → IfSome r (λ next. HasTurn answers known (conditions_at old.table turn.now) (slot_state (connections old.table) turn.slot old.asks) (slot_state (connections new.table) turn.slot new.asks) next)
           → IfNone r ((connections new.table ≡ connections old.table) × (new.asks ≡ old.asks)) → (queries : List QueryOutcome) × HasAsked answers old.asks queries new.asks
       go None own (same, still) = ([], inl (refl, still))
-      go (Some next) own nobody = turn-asks (has_room old.table) turn.now own.before own.after old.asks new.asks next own.turn
+      go (Some next) own nobody = turn-asks (conditions_at old.table turn.now) (connection_state own.before old.asks) (connection_state own.after new.asks) next own.turn
 
   -- nothing was done
   pub run-none : (state : WorkerState A T) → HasRun answers known state state
@@ -336,11 +337,11 @@ module _ {A T : Type 0} (answers : A → List ℕ → Said → A → Type 0) (kn
   run-same old between new (steps, runs) table asks = (steps ++ [], runs-then steps [] old between new runs (table, asks))
 
   -- what the result of a turn of the slots says of its own connection
-  pub own-by : (may_ask : Bool) (now slot : ℕ) (old new : List (Option (OpenConnection T))) (asker asks : A) (turned : Option TurnResult)
-      → IfSome turned (λ t. HasTurn answers known may_ask now slot old asker new asks t.next)
-      → IfSome (option_map (λ t. t.next) turned) (λ next. HasTurn answers known may_ask now slot old asker new asks next)
-  own-by may_ask now slot old new asker asks None own = tt
-  own-by may_ask now slot old new asker asks (Some turned) own = own
+  pub own-by : (conditions : TurnConditions) (old new : SlotState A T) (turned : Option TurnResult)
+      → IfSome turned (λ t. HasTurn answers known conditions old new t.next)
+      → IfSome (option_map (λ t. t.next) turned) (λ next. HasTurn answers known conditions old new next)
+  own-by conditions old new None own = tt
+  own-by conditions old new (Some turned) own = own
 
 -- and of a slot with no connection
 pub none-by : (P : Type 0) (turned : Option TurnResult) → IfNone turned P → IfNone (option_map (λ t. t.next) turned) P

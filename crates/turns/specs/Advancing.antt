@@ -13,6 +13,16 @@ use Rattle.turns.specs.declared.turn.Next.{Next}
 use Rattle.turns.specs.declared.turn.Next.TheVariants.{Turn, Readable, Writable, Room, Done, Failed}
 use Rattle.turns.specs.declared.transport.Transport.{Ghosts as Transport}
 
+-- an exchange at one moment: the session of a connection, its transport, and the answerer of its queries
+pub record ExchangeState (A T : Type 0) : Type 0 where
+  pub exchange : BufferedSession
+  pub transport : T
+  pub asks : A
+
+-- the exchange of these three
+abbrev pub exchange_state : {A T : Type 0} → BufferedSession → T → A → ExchangeState A T
+exchange_state exchange transport asks = record { exchange = exchange; transport = transport; asks = asks }
+
 -- the bytes `read` came, and all but those in the buffer were taken; these queries of theirs were answered, and `written` was sent. `written` and the
 -- bytes that are to be sent answer the bytes that were taken
 abbrev pub HasServed : List ℕ → List QueryOutcome → List ℕ → BufferedSession → Type 0
@@ -32,15 +42,15 @@ abbrev pub Calls : {T : Type 0} → Transport T → T → T → Type 0
 Calls {T} known before after = (between : T) × ReadsOnce known.reads before between × WritesOnce known.writes between after
 
 -- a connection went on: some bytes of its client came, at most one query of it was answered, and so many bytes were sent to it
-pub record Advances {A T : Type 0} (answers : A → List ℕ → Said → A → Type 0) (known : Transport T) (old : BufferedSession) (before : T) (asker : A) (new : BufferedSession) (after : T) (asks : A) (sent : ℕ) : Type 0 where
+pub record Advances {A T : Type 0} (answers : A → List ℕ → Said → A → Type 0) (known : Transport T) (old new : ExchangeState A T) (sent : ℕ) : Type 0 where
   pub came : List ℕ
   pub went : List ℕ
   pub queries : List QueryOutcome
-  pub reads : Appends (known.delivered before) (known.delivered after) came
-  pub writes : Appends (known.accepted before) (known.accepted after) went
+  pub reads : Appends (known.delivered old.transport) (known.delivered new.transport) came
+  pub writes : Appends (known.accepted old.transport) (known.accepted new.transport) went
   pub count : length went ≡ sent
-  pub says : HasAsked answers asker queries asks
-  pub keeps : (read written : List ℕ) (earlier : List QueryOutcome) → HasServed read earlier written old → HasServed (read ++ came) (earlier ++ queries) (written ++ went) new
+  pub says : HasAsked answers old.asks queries new.asks
+  pub keeps : (read written : List ℕ) (earlier : List QueryOutcome) → HasServed read earlier written old.exchange → HasServed (read ++ came) (earlier ++ queries) (written ++ went) new.exchange
 
 -- so many bytes were sent, and none came
 pub record Sends {T : Type 0} (known : Transport T) (old : BufferedSession) (before : T) (new : BufferedSession) (after : T) (sent : ℕ) : Type 0 where

@@ -6,8 +6,8 @@ use Rattle.httpedge.specs.Session.{QueryOutcome, HasRespondedWith, new_session}
 use Rattle.httpedge.specs.declared.stage.Stage.TheVariants.{Ended}
 use Rattle.turns.specs.Pressure.{IsFirst, IsWanted}
 use Rattle.turns.specs.Queue.{has, joins, before}
-use Rattle.turns.specs.Slots.{at_slot, OthersStay, HasTurn}
-use Rattle.turns.specs.Table.{Goes, connections, ready_slots, waiting_slots, has_room, timeouts_of, KeepsWaiting}
+use Rattle.turns.specs.Slots.{at_slot, slot_state, OthersStay, HasTurn}
+use Rattle.turns.specs.Table.{Goes, connections, ready_slots, waiting_slots, conditions_at, timeouts_of, KeepsWaiting}
 use Rattle.turns.specs.Times.{deadline, is_over, is_draining, is_unanswered}
 use Rattle.turns.specs.declared.open_connection.OpenConnection.{OpenConnection}
 use Rattle.turns.specs.declared.pressure.Pressure.{Pressure}
@@ -60,7 +60,8 @@ pub record IsTurnOf {A T : Type 0} (answers : A → List ℕ → Said → A → 
   pub slots : List ℕ
   pub first : ready_slots old.table ≡ turn.slot ∷ rest
   pub later : ready_slots new.table ≡ joins rest slots
-  pub own : IfSome turn.next (λ next. HasTurn answers known (has_room old.table) turn.now turn.slot (connections old.table) old.asks (connections new.table) new.asks next)
+  pub own : IfSome turn.next (λ next. HasTurn answers known (conditions_at old.table turn.now) (slot_state (connections old.table) turn.slot old.asks)
+      (slot_state (connections new.table) turn.slot new.asks) next)
   pub nobody : IfNone turn.next ((connections new.table ≡ connections old.table) × (new.asks ≡ old.asks))
   pub empty : IfNone turn.next (at_slot (connections old.table) turn.slot ≡ None)
   pub others : OthersStay turn.slot (connections old.table) (connections new.table)

@@ -3,6 +3,7 @@ use Rattle.std.specs.Prelude.{◌≡◌, ◌⊎◌, ℕ, List, Option, None, Som
 use Rattle.turns.specs.Queue.{has, joins}
 use Rattle.turns.specs.Slots.{at_slot, OthersStay}
 use Rattle.turns.specs.declared.open_connection.OpenConnection.{OpenConnection}
+use Rattle.turns.specs.declared.open_connection.TurnConditions.{TurnConditions}
 use Rattle.turns.specs.declared.served.Closed.{Closed}
 use Rattle.turns.specs.declared.times.Timeouts.{Timeouts}
 use Rattle.turns.specs.declared.table.ConnectionTable.{ConnectionTable}
@@ -30,6 +31,10 @@ room_of table = table.room
 -- a query may be answered: fewer bytes of answers than the room are owed
 abbrev pub has_room : {T : Type 0} → ConnectionTable T → Bool
 has_room table = nat_lt table.slots.owed table.room
+
+-- under which conditions a turn is made: a query may be answered in it where there is room
+abbrev pub conditions_at : {T : Type 0} → ConnectionTable T → ℕ → TurnConditions
+conditions_at table now = record { may_ask = has_room table; now = now }
 
 -- the limits stay, and no slot that waits for room is lost: it still waits, or has a turn
 pub record KeepsWaiting {T : Type 0} (old new : ConnectionTable T) : Type 0 where

@@ -38,7 +38,7 @@ mod turn;
 
 pub use buffered_session::BufferedSession;
 pub use drained::MAX_DRAINED_BYTES;
-pub use open_connection::OpenConnection;
+pub use open_connection::{OpenConnection, TurnConditions};
 pub use pressure::{PATIENCE_MILLIS, Pressure};
 pub use read_buffer::{READ_BYTES, ReadBuffer};
 pub use ready_queue::ReadyQueue;

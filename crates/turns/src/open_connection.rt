@@ -21,6 +21,15 @@ pub struct OpenConnection<T> {
     pub dropped: usize,
 }
 
+/// When a turn is made, and what it may do.
+#[derive(Clone, Copy)]
+pub struct TurnConditions {
+    /// Whether a query may be answered in it.
+    pub may_ask: bool,
+    /// The milliseconds of the worker's clock.
+    pub now: u64,
+}
+
 // How many bytes a read brought.
 fn brought(outcome: ReadOutcome) -> usize
     ensures { result ≡ brought outcome }
@@ -54,7 +63,7 @@ fn phase_drained(next: Next, phase: Phase) -> Phase
 }
 
 impl<T: Transport> OpenConnection<T> {
-    ghost use Rattle.turns.specs.Connection.{owed_by, IsServed, IsDrained, IsTurn};
+    ghost use Rattle.turns.specs.Connection.{connection_state, owed_by, IsServed, IsDrained, IsTurn};
 
     /// A connection that is opened now. Where its memory is refused the transport is returned.
     pub fn new(alloc: Global, transport: T, now: u64) -> Result<Self, T>
@@ -87,14 +96,20 @@ impl<T: Transport> OpenConnection<T> {
     }
 
     // A turn before the last answer was sent. After that answer the sending side is closed, and further turns drain.
-    fn serve<A: Asks>(&mut self, asks: &mut A, may_ask: bool, now: u64) -> TurnResult
-        ensures served { IsServed A.answers ⟦<T as Transport>⟧ may_ask now self.old asks.old self.new asks.new result.next }
+    fn serve<A: Asks>(&mut self, asks: &mut A, conditions: TurnConditions) -> TurnResult
+        ensures served { IsServed A.answers ⟦<T as Transport>⟧ conditions (connection_state self.old asks.old)
+            (connection_state self.new asks.new) result.next }
         ensures unasked { result.asked ≡ false → asks.new ≡ asks.old }
-        ensures no_more { may_ask ≡ false → (owed_by self.new ≤ owed_by self.old) × (asks.new ≡ asks.old) }
+        ensures no_more { conditions.may_ask ≡ false → (owed_by self.new ≤ owed_by self.old) × (asks.new ≡ asks.old) }
     {
-        let turned = serve_turn(&mut self.exchange, &mut self.transport, asks, may_ask);
+        let turned = serve_turn(
+            &mut self.exchange,
+            &mut self.transport,
+            asks,
+            conditions.may_ask,
+        );
         let owes = self.owed() > 0;
-        self.phase = self.phase.after(turned, owes, now);
+        self.phase = self.phase.after(turned, owes, conditions.now);
         if turned.next != Next::Done {
             return turned;
         }
@@ -119,14 +134,15 @@ impl<T: Transport> OpenConnection<T> {
     }
 
     /// The connection's turn.
-    pub fn turn<A: Asks>(&mut self, asks: &mut A, may_ask: bool, now: u64) -> TurnResult
-        ensures turn { IsTurn A.answers ⟦<T as Transport>⟧ may_ask now self.old asks.old self.new asks.new result.next }
+    pub fn turn<A: Asks>(&mut self, asks: &mut A, conditions: TurnConditions) -> TurnResult
+        ensures turn { IsTurn A.answers ⟦<T as Transport>⟧ conditions (connection_state self.old asks.old)
+            (connection_state self.new asks.new) result.next }
         ensures unasked { result.asked ≡ false → asks.new ≡ asks.old }
     {
         match self.phase {
             Phase::Over => TurnResult::without_query(Next::Failed),
             Phase::Drain { .. } => TurnResult::without_query(self.drain()),
-            _ => self.serve(asks, may_ask, now),
+            _ => self.serve(asks, conditions),
         }
     }
 }

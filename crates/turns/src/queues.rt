@@ -30,7 +30,8 @@ pub fn admit(ready: &mut ReadyQueue, waiting: &mut ReadyQueue, has_room: bool)
     ensures line { IsAdmitted has_room ready.old.order waiting.old.order ready.new.order waiting.new.order }
     ensures admitted { has_room ≡ true → ready.new.order ≡ [] → waiting.new.order ≡ [] }
     ensures stays { (slot : ℕ) → has slot ready.old.order ≡ true → has slot ready.new.order ≡ true }
-    ensures waits { (slot : ℕ) → has slot waiting.old.order ≡ true → (has slot ready.new.order ≡ true) ⊎ (has slot waiting.new.order ≡ true) }
+    ensures waits { (slot : ℕ) → has slot waiting.old.order ≡ true
+        → (has slot ready.new.order ≡ true) ⊎ (has slot waiting.new.order ≡ true) }
     ensures ready_slots { ready.new.slots ≡ ready.old.slots }
     ensures waiting_slots { waiting.new.slots ≡ waiting.old.slots }
 {

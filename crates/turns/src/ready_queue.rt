@@ -72,7 +72,8 @@ impl ReadyQueue {
 
     /// The slot that has waited longest, which leaves the queue.
     pub fn next(&mut self) -> Option<usize>
-        ensures first { MatchOption result ((self.old.order ≡ []) × (self.new.order ≡ [])) (λ slot. self.old.order ≡ slot ∷ self.new.order) }
+        ensures first { MatchOption result ((self.old.order ≡ []) × (self.new.order ≡ []))
+            (λ slot. self.old.order ≡ slot ∷ self.new.order) }
         ensures below { IfSome result (λ slot. slot < self.old.slots) }
         ensures slots { self.new.slots ≡ self.old.slots }
     {

@@ -1,10 +1,10 @@
 ghost use Rattle.std.specs.Prelude.{◌≡◌, ◌⊎◌, ◌≤◌, ◌<◌, ◌+◌, ◌^◌, ℕ, None, Some, length, IfOk, IfSome, IfNone, MatchOption, IsSomeAnd, is_some, is_none, true, false};
 ghost use Rattle.std.specs.List.{list_all};
-ghost use Rattle.turns.specs.Connection.{IsTurn, owed_by};
+ghost use Rattle.turns.specs.Connection.{IsTurn, connection_state, owed_by};
 ghost use Rattle.turns.specs.Owed.{owed_at, owed_in_all};
-ghost use Rattle.turns.specs.Slots.{at_slot, OthersStay, HasTurn};
+ghost use Rattle.turns.specs.Slots.{at_slot, slot_state, OthersStay, HasTurn};
 
-use crate::{OpenConnection, Phase, Transport, TurnResult};
+use crate::{OpenConnection, Phase, Transport, TurnConditions, TurnResult};
 use httpedge::Asks;
 use std::alloc::{AllocError, Global};
 
@@ -17,29 +17,21 @@ pub struct Slots<T: Drop> {
     pub owed: u128,
 }
 
-/// When a turn is made, and what it may do.
-#[derive(Clone, Copy)]
-pub struct TurnConditions {
-    /// Whether a query may be answered in it.
-    pub may_ask: bool,
-    /// The milliseconds of the worker's clock.
-    pub now: u64,
-}
-
 // A connection has its turn. The result has the bytes that are to be sent to it before and after.
 fn turn_of<T: Transport, A: Asks>(
     connection: &mut OpenConnection<T>,
     asks: &mut A,
     conditions: TurnConditions,
 ) -> (TurnResult, u128, u128)
-    ensures turn { IsTurn A.answers ⟦<T as Transport>⟧ conditions.may_ask conditions.now connection.old asks.old connection.new asks.new result.0.next }
+    ensures turn { IsTurn A.answers ⟦<T as Transport>⟧ conditions (connection_state connection.old asks.old)
+        (connection_state connection.new asks.new) result.0.next }
     ensures unasked { result.0.asked ≡ false → asks.new ≡ asks.old }
     ensures before { result.1 ≡ owed_by connection.old }
     ensures after { result.2 ≡ owed_by connection.new }
     ensures small { result.2 < 2 ^ 66 }
 {
     let before = connection.owed();
-    let turned = connection.turn(asks, conditions.may_ask, conditions.now);
+    let turned = connection.turn(asks, conditions);
     (turned, before, connection.owed())
 }
 
@@ -68,14 +60,16 @@ impl<T: Transport + Drop> Slots<T> {
         requires counted { self.old.owed ≡ owed_in_all self.old.items.items }
         requires small { self.old.owed < 2 ^ 67 }
         ensures counted { self.new.owed ≡ owed_in_all self.new.items.items }
-        ensures balance { self.new.owed + owed_at (at_slot self.old.items.items slot) ≡ self.old.owed + owed_at (at_slot self.new.items.items slot) }
+        ensures balance { self.new.owed + owed_at (at_slot self.old.items.items slot)
+            ≡ self.old.owed + owed_at (at_slot self.new.items.items slot) }
         ensures small { owed_at (at_slot self.new.items.items slot) < 2 ^ 66 ⊎ (self.new.owed ≡ self.old.owed) }
         ensures len { length self.new.items.items ≡ length self.old.items.items }
         ensures others { OthersStay slot self.old.items.items self.new.items.items }
         ensures nobody { IfNone result ((self.new.items.items ≡ self.old.items.items) × (asks.new ≡ asks.old)) }
         ensures empty { IfNone result (at_slot self.old.items.items slot ≡ None) }
         ensures own { IfSome result
-            (λ turned. HasTurn A.answers ⟦<T as Transport>⟧ conditions.may_ask conditions.now slot self.old.items.items asks.old self.new.items.items asks.new turned.next) }
+            (λ turned. HasTurn A.answers ⟦<T as Transport>⟧ conditions (slot_state self.old.items.items slot asks.old)
+            (slot_state self.new.items.items slot asks.new) turned.next) }
         ensures unasked { IfSome result (λ turned. turned.asked ≡ false → asks.new ≡ asks.old) }
     {
         if slot >= self.items.len() {
@@ -145,7 +139,8 @@ impl<T: Transport + Drop> Slots<T> {
     pub fn free(&self) -> Option<usize>
         ensures known { IfSome result (λ slot. slot < length self.now.items.items) }
         ensures free { IfSome result (λ slot. at_slot self.now.items.items slot ≡ None) }
-        ensures full { IfNone result ((slot : ℕ) → slot < length self.now.items.items → is_some (at_slot self.now.items.items slot) ≡ true) }
+        ensures full { IfNone result
+            ((slot : ℕ) → slot < length self.now.items.items → is_some (at_slot self.now.items.items slot) ≡ true) }
     {
         for slot in 0..self.items.len() {
             if self.items[slot].is_none() {

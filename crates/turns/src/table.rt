@@ -5,8 +5,10 @@ ghost use Rattle.turns.specs.Slots.{at_slot};
 use crate::pressure::first_of;
 use crate::queues::{admit, settle};
 use crate::served::{asked_in, next_of};
-use crate::slots::{Slots, TurnConditions};
-use crate::{Closed, OpenConnection, Pressure, ReadyQueue, Served, Timeouts, Transport};
+use crate::slots::Slots;
+use crate::{
+    Closed, OpenConnection, Pressure, ReadyQueue, Served, Timeouts, Transport, TurnConditions,
+};
 use httpedge::Asks;
 use std::alloc::{AllocError, Global};
 
@@ -46,8 +48,8 @@ impl<T: Transport + Drop> ConnectionTable<T> {
     ghost use Rattle.turns.specs.Queue.{has, joins, IsAdmitted};
     ghost use Rattle.turns.specs.Runs.{HasRun, IsTurnOf};
     ghost use Rattle.turns.specs.Settling.{IsSettled};
-    ghost use Rattle.turns.specs.Slots.{OthersStay, HasTurn};
-    ghost use Rattle.turns.specs.Table.{connections, ready_slots, waiting_slots, timeouts_of, room_of, has_room, ClosedOrStayed, Goes, KeepsWaiting, LeftOrStayed};
+    ghost use Rattle.turns.specs.Slots.{slot_state, OthersStay, HasTurn};
+    ghost use Rattle.turns.specs.Table.{connections, ready_slots, waiting_slots, timeouts_of, room_of, has_room, conditions_at, ClosedOrStayed, Goes, KeepsWaiting, LeftOrStayed};
     ghost use Rattle.turns.specs.Times.{deadline, is_unanswered};
     ghost use Rattle.turns.specs.declared.turn.Next.TheVariants.{Turn, Room};
 
@@ -92,7 +94,8 @@ impl<T: Transport + Drop> ConnectionTable<T> {
     pub fn free_slot(&self) -> Option<usize>
         ensures known { IfSome result (λ slot. slot < length (connections self.now)) }
         ensures free { IfSome result (λ slot. at_slot (connections self.now) slot ≡ None) }
-        ensures full { IfNone result ((slot : ℕ) → slot < length (connections self.now) → is_some (at_slot (connections self.now) slot) ≡ true) }
+        ensures full { IfNone result
+            ((slot : ℕ) → slot < length (connections self.now) → is_some (at_slot (connections self.now) slot) ≡ true) }
     {
         self.slots.free()
     }
@@ -130,16 +133,20 @@ impl<T: Transport + Drop> ConnectionTable<T> {
     /// Makes the next turn: that of the slot that has waited longest. There is none where no slot has a turn.
     pub fn serve_next<A: Asks>(&mut self, asks: &mut A, now: u64) -> Option<Served>
         ensures first { MatchOption result (ready_slots self.old ≡ [])
-            (λ served. (rest : List ℕ) × (slots : List ℕ) × (ready_slots self.old ≡ served.slot ∷ rest) × (ready_slots self.new ≡ joins rest slots)) }
+            (λ served. (rest : List ℕ) × (slots : List ℕ)
+            × (ready_slots self.old ≡ served.slot ∷ rest) × (ready_slots self.new ≡ joins rest slots)) }
         ensures none { IfNone result ((connections self.new ≡ connections self.old) × (asks.new ≡ asks.old)) }
-        ensures nobody { IfSome result (λ served. IfNone served.next ((connections self.new ≡ connections self.old) × (asks.new ≡ asks.old))) }
+        ensures nobody { IfSome result
+            (λ served. IfNone served.next ((connections self.new ≡ connections self.old) × (asks.new ≡ asks.old))) }
         ensures empty { IfSome result (λ served. IfNone served.next (at_slot (connections self.old) served.slot ≡ None)) }
         ensures own { IfSome result
             (λ served. IfSome served.next
-            (λ next. HasTurn A.answers ⟦<T as Transport>⟧ (has_room self.old) now served.slot (connections self.old) asks.old
-            (connections self.new) asks.new next)) }
+            (λ next. HasTurn A.answers ⟦<T as Transport>⟧ (conditions_at self.old now)
+            (slot_state (connections self.old) served.slot asks.old)
+            (slot_state (connections self.new) served.slot asks.new) next)) }
         ensures others { IfSome result (λ served. OthersStay served.slot (connections self.old) (connections self.new)) }
-        ensures run { HasRun A.answers ⟦<T as Transport>⟧ (record { table = self.old; asks = asks.old }) (record { table = self.new; asks = asks.new }) }
+        ensures run { HasRun A.answers ⟦<T as Transport>⟧ (record { table = self.old; asks = asks.old })
+            (record { table = self.new; asks = asks.new }) }
         ensures step { IfSome result
             (λ served. IsTurnOf A.answers ⟦<T as Transport>⟧ (record { table = self.old; asks = asks.old })
             (record { slot = served.slot; next = served.next; now = now }) (record { table = self.new; asks = asks.new })) }
@@ -147,7 +154,8 @@ impl<T: Transport + Drop> ConnectionTable<T> {
         ensures unasked { IfSome result (λ served. served.asked ≡ false → asks.new ≡ asks.old) }
         ensures turns { IfSome result (λ served. served.next ≡ Some Turn → has served.slot (ready_slots self.new) ≡ true) }
         ensures waits { IfSome result
-            (λ served. served.next ≡ Some Room → (has served.slot (ready_slots self.new) ≡ true) ⊎ (has served.slot (waiting_slots self.new) ≡ true)) }
+            (λ served. served.next ≡ Some Room
+            → (has served.slot (ready_slots self.new) ≡ true) ⊎ (has served.slot (waiting_slots self.new) ≡ true)) }
         ensures keeps { KeepsWaiting self.old self.new }
         ensures line { IfSome result
             (λ served. (settled : List ℕ) × (rest : List ℕ) × IsSettled served.slot served.next (waiting_slots self.old) settled
@@ -188,7 +196,9 @@ impl<T: Transport + Drop> ConnectionTable<T> {
     pub fn close_overdue(&mut self, slot: usize, now: u64) -> Option<OpenConnection<T>>
         ensures overdue { IfSome result (λ connection. deadline (timeouts_of self.old) connection.phase ≤ now) }
         ensures left { LeftOrStayed slot result self.old self.new }
-        ensures in_time { IfNone result (IfSome (at_slot (connections self.old) slot) (λ connection. now < deadline (timeouts_of self.old) connection.phase)) }
+        ensures in_time { IfNone result
+            (IfSome (at_slot (connections self.old) slot)
+            (λ connection. now < deadline (timeouts_of self.old) connection.phase)) }
         ensures goes { Goes self.old self.new }
     {
         let phase = self.slots.phase(slot)?;
@@ -202,7 +212,8 @@ impl<T: Transport + Drop> ConnectionTable<T> {
     pub fn close_unanswered(&mut self, slot: usize) -> Option<OpenConnection<T>>
         ensures unanswered { IfSome result (λ connection. is_unanswered connection.phase ≡ true) }
         ensures left { LeftOrStayed slot result self.old self.new }
-        ensures answered { IfNone result (IfSome (at_slot (connections self.old) slot) (λ connection. is_unanswered connection.phase ≡ false)) }
+        ensures answered { IfNone result
+            (IfSome (at_slot (connections self.old) slot) (λ connection. is_unanswered connection.phase ≡ false)) }
         ensures goes { Goes self.old self.new }
     {
         let phase = self.slots.phase(slot)?;
@@ -256,7 +267,8 @@ impl<T: Transport + Drop> ConnectionTable<T> {
     /// that has been so for longest. Where there is none, of those that are amid a head of over a second the one leaves whose last
     /// bytes came longest ago, if there is one.
     pub fn close_for_slot(&mut self, now: u64) -> Option<Closed<T>>
-        ensures full { IfSome result (λ _. (slot : ℕ) → slot < length (connections self.old) → is_some (at_slot (connections self.old) slot) ≡ true) }
+        ensures full { IfSome result
+            (λ _. (slot : ℕ) → slot < length (connections self.old) → is_some (at_slot (connections self.old) slot) ≡ true) }
         ensures first { IfSome result (λ closed. IsFirst (pressure.Slot now) self.old closed.slot) }
         ensures left { ClosedOrStayed result self.old self.new }
         ensures goes { Goes self.old self.new }
@@ -283,7 +295,8 @@ impl<T: Transport + Drop> ConnectionTable<T> {
         ensures no_room { IfSome result (λ _. has_room self.old ≡ false) }
         ensures wanted { IfSome result (λ _. waiting_slots self.old ≡ [] → ⊥) }
         ensures none { IfNone result
-            ((waiting_slots self.old ≡ []) ⊎ ((has_room self.old ≡ true) ⊎ NoneMay (pressure.Room now (timeouts_of self.old).rate) self.old)) }
+            ((waiting_slots self.old ≡ [])
+            ⊎ ((has_room self.old ≡ true) ⊎ NoneMay (pressure.Room now (timeouts_of self.old).rate) self.old)) }
         ensures first { IfSome result (λ closed. IsFirst (pressure.Room now (timeouts_of self.old).rate) self.old closed.slot) }
         ensures left { ClosedOrStayed result self.old self.new }
         ensures goes { Goes self.old self.new }

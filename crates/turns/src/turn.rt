@@ -1,6 +1,6 @@
 ghost use Rattle.std.specs.Prelude.{◌≡◌, ◌≢◌, ◌++◌, ◌≤◌, ◌<◌, ◌⊎◌, ℕ, List, [], Bool, None, Some, length, true, false, IfSome};
 ghost use Rattle.httpedge.specs.Session.{wants, HasAsked, QueryOutcome};
-ghost use Rattle.turns.specs.Advancing.{HasServed, HasTaken, HasCome, ReadsOnce, WritesOnce, Calls, Advances, Sends, Receives, IsNext};
+ghost use Rattle.turns.specs.Advancing.{HasServed, HasTaken, HasCome, ReadsOnce, WritesOnce, Calls, Advances, exchange_state, Sends, Receives, IsNext};
 ghost use Rattle.turns.specs.Transport.{count_of};
 ghost use Rattle.turns.specs.declared.outcomes.ReadOutcome.TheVariants.{End, WouldBlock, Failed};
 ghost use Rattle.turns.specs.declared.outcomes.WriteOutcome.TheVariants.{Bytes};
@@ -149,9 +149,11 @@ fn take<T: Transport, A: Asks>(
     may_ask: bool,
 ) -> Option<Next>
     requires wanted { wants exchange.old.session ≡ true }
-    ensures advances { Advances A.answers ⟦<T as Transport>⟧ exchange.old transport.old asks.old exchange.new transport.new asks.new 0 }
+    ensures advances { Advances A.answers ⟦<T as Transport>⟧ (exchange_state exchange.old transport.old asks.old)
+        (exchange_state exchange.new transport.new asks.new) 0 }
     ensures next { IfSome result (λ next. IsNext ⟦<T as Transport>⟧ may_ask next exchange.new transport.new) }
-    ensures taken { result ≡ None → wants exchange.new.session ≡ true → HasTaken T.reads exchange.old transport.old exchange.new transport.new }
+    ensures taken { result ≡ None → wants exchange.new.session ≡ true
+        → HasTaken T.reads exchange.old transport.old exchange.new transport.new }
     ensures turns { result ≡ Some Turn → ⊥ }
     ensures calls { ReadsOnce T.reads transport.old transport.new }
     ensures unasked { may_ask ≡ false → exchange.new.session ≡ exchange.old.session }
@@ -181,7 +183,8 @@ fn take_on<T: Transport, A: Asks>(
     asks: &mut A,
     may_ask: bool,
 ) -> Option<Next>
-    ensures advances { Advances A.answers ⟦<T as Transport>⟧ exchange.old transport.old asks.old exchange.new transport.new asks.new 0 }
+    ensures advances { Advances A.answers ⟦<T as Transport>⟧ (exchange_state exchange.old transport.old asks.old)
+        (exchange_state exchange.new transport.new asks.new) 0 }
     ensures next { IfSome result (λ next. IsNext ⟦<T as Transport>⟧ may_ask next exchange.new transport.new) }
     ensures unasked { may_ask ≡ false → exchange.new.session ≡ exchange.old.session }
     ensures silent { may_ask ≡ false → asks.new ≡ asks.old }
@@ -221,10 +224,12 @@ pub fn serve_turn<T: Transport, A: Asks>(
     asks: &mut A,
     may_ask: bool,
 ) -> TurnResult
-    ensures advances { Advances A.answers ⟦<T as Transport>⟧ exchange.old transport.old asks.old exchange.new transport.new asks.new result.sent }
+    ensures advances { Advances A.answers ⟦<T as Transport>⟧ (exchange_state exchange.old transport.old asks.old)
+        (exchange_state exchange.new transport.new asks.new) result.sent }
     ensures next { IsNext ⟦<T as Transport>⟧ may_ask result.next exchange.new transport.new }
     ensures calls { Calls ⟦<T as Transport>⟧ transport.old transport.new }
-    ensures moves { result.next ≡ Turn → (0 < result.sent) ⊎ HasTaken T.reads exchange.old transport.old exchange.new transport.new }
+    ensures moves { result.next ≡ Turn
+        → (0 < result.sent) ⊎ HasTaken T.reads exchange.old transport.old exchange.new transport.new }
     ensures no_more { may_ask ≡ false → length exchange.new.session.outgoing ≤ length exchange.old.session.outgoing }
     ensures silent { may_ask ≡ false → asks.new ≡ asks.old }
     ensures answering { wants exchange.old.session ≡ false → asks.new ≡ asks.old }

@@ -6,7 +6,7 @@ returns-in_default-clause-advances g c = receives-advance g.A.Asks.answers g.T.T
 
 pub returns-in-End-clause-advances : goal.returns-in-End-clause-advances
 returns-in-End-clause-advances g c =
-    receives-then g.A.Asks.answers g.T.Transport _ _ _ _ _ _ _ _ _ c.receive.ensures.receives
+    receives-then g.A.Asks.answers g.T.Transport _ _ _ _ _ c.receive.ensures.receives
     (ends-advance g.A.Asks.answers g.T.Transport _ _ _ _ c.take_end.ensures.said)
 
 pub returns-in-Failed-clause-advances : goal.returns-in-Failed-clause-advances

@@ -9,7 +9,7 @@ returns-clause-served g c =
     let done : turned.result.next ≡ next.Done = search rules in
     record {
       turned = turned.result;
-      advances = then-nothing g.A.Asks.answers g.T.Transport _ _ _ _ _ _ _ _ turned.ensures.advances c.shut_down.ensures.delivered c.shut_down.ensures.accepted;
+      advances = then-nothing g.A.Asks.answers g.T.Transport _ _ _ _ turned.ensures.advances c.shut_down.ensures.delivered c.shut_down.ensures.accepted;
       time = search rules;
       moves = λ e. absurd (let clash : next.Turn ≡ next.Done = sym e ∙ done in cc clash);
       called = turned.new.transport;
