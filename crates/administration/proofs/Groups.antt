@@ -1,13 +1,14 @@
 -- Batches that are submitted together, and the commands that submit them.
 use Rattle.std.proofs.Common.{◌≡◌, ◌==◌, ℕ, zero, suc, ◌+◌, ◌-◌, ◌≤◌, List, [], ◌∷◌, ◌++◌, Option, None, Some, length, map, take, drop, true, false, refl, sym, ◌∙◌, ap, subst, arith, append_assoc, append-nil, length-append, length-drop, length-take-le, take-add, get_or, codes, take-append-drop, eqb-true}
 use Rattle.std.proofs.lemmas.List.{length-map, take_more}
-use Rattle.std.specs.Prelude.{◌≢◌, ◌<◌, Bool, Err, IfSome, IsSome, MatchOption, Vec}
+use Rattle.std.specs.Prelude.{◌≢◌, ◌<◌, Bool, Result, Ok, Err, IfSome, IsSome, MatchOption, OnErr, OnOk, Vec}
 use Rattle.std.specs.declared.alloc.Global.{Global}
 use Rattle.journal.specs.Texts.{texts_of}
 use Rattle.std.specs.Io.KnownBytes.{Consumes}
 use Rattle.std.proofs.KnownBytes.{Consumes-nil, Consumes-trans}
 use Rattle.std.proofs.lemmas.List.Folds.{list_any-append}
 use Rattle.streams.specs.Sent.{IsSent, IsCutSomewhere}
+use Rattle.streams.specs.Sides.{Attended, SidesView}
 use Rattle.streams.proofs.Sending.{cut-more, sent-cut, sent-sent}
 use Rattle.std.specs.List.{list_any}
 use Rattle.sharing.specs.Sharing.{after}
@@ -261,6 +262,14 @@ pub failed-counted : (opening : State) (old : Batches) (first failed : List (Lis
     → length results + length failed ≡ length all
 failed-counted opening old first failed results new whole is = omega (arith, submitted-count opening old first results new is, ap length whole, length-append first failed)
 
+-- no more results than batches
+pub results-within : {T E : Type 0} (done : Result T E) (opening : State) (old : Batches) (batches : List (List ℕ)) (results : List Done) (new : Batches)
+    → OnOk done (AreSubmitted opening old batches results new)
+    → OnErr done ((first failed : List (List ℕ)) × (batches ≡ first ++ failed) × AreSubmitted opening old first results new × HasFailed opening new failed)
+    → length results ≤ length batches
+results-within (Ok x) opening old batches results new submitted none = omega (arith, submitted-count opening old batches results new submitted)
+results-within (Err x) opening old batches results new none (first, failed, whole, submitted, fails) = omega (arith, failed-counted opening old first failed results new whole submitted)
+
 -- a rest that the test for an empty one takes has nothing
 pub nothing-left : {X : Type 0} (rest : List X) (empty : Bool) → empty ≡ (length rest == 0) → empty ≡ true → rest ≡ []
 nothing-left [] empty e f = refl
@@ -278,29 +287,29 @@ next-read before after failed next.Nothing same = ([], subst (λ (o : Option (Li
 next-read before after failed (next.Command what) (bytes, command, came, is, others) = (bytes, came)
 next-read before after failed next.End (bytes, ended, none) = (bytes, ended.read)
 
-module _ {O : Type 0} (opening : State) (held : O → Option (List ℕ)) (taken : O → ℕ) (old : Batches) (start : Option (List ℕ)) (first : O) (left : Option (List ℕ)) (now : Batches) (current : O)
-    (come : HasCome opening held taken old start first left now current) where
+module _ {R W : Type 0} (opening : State) (sides : SidesView R W) (start : Attended R W Batches) (left : Option (List ℕ)) (now : Batches) (current : W)
+    (come : HasCome opening sides start left now current) where
   -- the commands so far, with the bytes that were read after them
-  sent-so-far : (after : Option (List ℕ)) (piece : List ℕ) → Consumes left after piece → HasSent opening start after held taken old first piece now current
-  sent-so-far after piece came = record {
+  sent-so-far : (reader : R) (piece : List ℕ) → Consumes left (sides.left reader) piece → HasSent opening sides start (record { reader = reader; writer = current; asked = now }) piece
+  sent-so-far reader piece came = record {
     commands = come.commands;
     lines = come.lines;
-    done = all-done opening held taken old start first left now current come after piece came;
+    done = all-done opening sides start left now current come reader current piece came;
     well_formed = come.well_formed;
     sent = come.sent;
   }
 
   module _ (middle : Option (List ℕ)) (bytes : List ℕ) (batches : List (List ℕ)) (came : Consumes left middle bytes) (are : AreCommandsOf bytes (map Submit batches)) where
     -- these batches are done, and the commands after them go on from there
-    pub group-more : (results : List Done) (next : Batches) (last : O) → AreSubmitted opening now batches results next → IsSent held taken current (lines_of results) last
-        → HasCome opening held taken old start first middle next last
+    pub group-more : (results : List Done) (next : Batches) (last : W) → AreSubmitted opening now batches results next → IsSent sides.held sides.taken current (lines_of results) last
+        → HasCome opening sides start middle next last
     group-more results next last submitted sent = record {
       bytes = come.bytes ++ bytes;
       commands = come.commands ++ map Submit batches;
       well_formed = rw (list_any-append is_malformed come.commands (map Submit batches), come.well_formed) (well-formed batches);
       lines = come.lines ++ lines_of results;
-      came = Consumes-trans start left middle come.bytes bytes come.came came;
-      sent = sent-sent held taken first current last come.lines (lines_of results) come.sent sent;
+      came = Consumes-trans (sides.left start.reader) left middle come.bytes bytes come.came came;
+      sent = sent-sent sides.held sides.taken start.writer current last come.lines (lines_of results) come.sent sent;
       follows = λ others more later rest new done.
           rw (append_assoc come.commands (map Submit batches) others, append_assoc come.bytes bytes more, append_assoc come.lines (lines_of results) later)
           (come.follows (map Submit batches ++ others) (bytes ++ more) (lines_of results ++ later) rest new
@@ -308,16 +317,17 @@ module _ {O : Type 0} (opening : State) (held : O → Option (List ℕ)) (taken 
     }
 
     -- the writer failed within the lines of these batches
-    pub group-cut : (after : Option (List ℕ)) (more : List ℕ) (results : List Done) (next : Batches) (last : O) → Consumes middle after more → length batches ≤ MAX_GROUP
-        → AreSubmitted opening now batches results next → IsCutSomewhere held taken current (lines_of results) last → IsCutShort opening start after held taken old first next last
-    group-cut after more results next last read few submitted cut =
+    pub group-cut : (reader : R) (more : List ℕ) (results : List Done) (next : Batches) (last : W) → Consumes middle (sides.left reader) more → length batches ≤ MAX_GROUP
+        → AreSubmitted opening now batches results next → IsCutSomewhere sides.held sides.taken current (lines_of results) last
+        → IsCutShort opening sides start (record { reader = reader; writer = last; asked = next })
+    group-cut reader more results next last read few submitted cut =
         let done : AreDone opening (map Submit batches ++ []) now (bytes ++ more) (lines_of results ++ []) more next =
         submitted-done opening now batches results next (bytes ++ more) more [] [] more next submitted (are more) (refl, refl, refl) in
         record {
           bytes = bytes ++ more;
           between = now;
           middle = current;
-          earlier = sent-so-far after (bytes ++ more) (Consumes-trans left middle after bytes more came read);
+          earlier = sent-so-far reader (bytes ++ more) (Consumes-trans left middle (sides.left reader) bytes more came read);
           commands = map Submit batches;
           lines = lines_of results;
           rest = more;
@@ -327,14 +337,14 @@ module _ {O : Type 0} (opening : State) (held : O → Option (List ℕ)) (taken 
         }
 
     -- the keeper failed
-    pub group-failed : (after : Option (List ℕ)) (more : List ℕ) (done failed : List (List ℕ)) (results : List Done) (next : Batches) (last : O) → Consumes middle after more → length batches ≤ MAX_GROUP → batches ≡ done ++ failed
-        → AreSubmitted opening now done results next → HasFailed opening next failed → IsReported held taken current (lines_of results ++ failed_lines (length failed)) last
-        → IsFailed opening start after held taken old first next last
-    group-failed after more done failed results next last read few whole submitted fails reported = record {
+    pub group-failed : (reader : R) (more : List ℕ) (done failed : List (List ℕ)) (results : List Done) (next : Batches) (last : W) → Consumes middle (sides.left reader) more → length batches ≤ MAX_GROUP → batches ≡ done ++ failed
+        → AreSubmitted opening now done results next → HasFailed opening next failed → IsReported sides.held sides.taken current (lines_of results ++ failed_lines (length failed)) last
+        → IsFailed opening sides start (record { reader = reader; writer = last; asked = next })
+    group-failed reader more done failed results next last read few whole submitted fails reported = record {
       bytes = bytes ++ more;
       between = now;
       middle = current;
-      earlier = sent-so-far after (bytes ++ more) (Consumes-trans left middle after bytes more came read);
+      earlier = sent-so-far reader (bytes ++ more) (Consumes-trans left middle (sides.left reader) bytes more came read);
       batches = done;
       failed = failed;
       results = results;
@@ -347,13 +357,14 @@ module _ {O : Type 0} (opening : State) (held : O → Option (List ℕ)) (taken 
     }
 
   -- the writer failed within the line of another command
-  pub other-cut : (after : Option (List ℕ)) (piece : List ℕ) (command : Command) (what : Done) (next : Batches) (last : O) → Consumes left after piece → IsCommandOf piece command
-      → HasDone opening now command what next → IsCutSomewhere held taken current (done_line what) last → IsCutShort opening start after held taken old first next last
-  other-cut after piece command what next last came is has cut = record {
+  pub other-cut : (reader : R) (piece : List ℕ) (command : Command) (what : Done) (next : Batches) (last : W) → Consumes left (sides.left reader) piece → IsCommandOf piece command
+      → HasDone opening now command what next → IsCutSomewhere sides.held sides.taken current (done_line what) last
+      → IsCutShort opening sides start (record { reader = reader; writer = last; asked = next })
+  other-cut reader piece command what next last came is has cut = record {
     bytes = piece;
     between = now;
     middle = current;
-    earlier = sent-so-far after piece came;
+    earlier = sent-so-far reader piece came;
     commands = command ∷ [];
     lines = done_line what;
     rest = [];

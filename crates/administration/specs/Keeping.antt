@@ -2,6 +2,7 @@
 use Rattle.std.specs.Prelude.{◌≡◌, ◌⊎◌, ℕ, zero, suc, ◌-◌, ◌≤◌, false, List, [], ◌∷◌, ◌++◌, length, map, take, Option, None, Some, codes}
 use Rattle.std.specs.List.{list_any}
 use Rattle.streams.specs.Sent.{IsSent, IsCutSomewhere}
+use Rattle.streams.specs.Sides.{Attended, SidesView}
 use Rattle.batches.specs.Batch.{State}
 use Rattle.mapshare.specs.Admin.{Batches, IsAccepted, all_of, with_batches}
 use Rattle.administration.specs.Commands.{Command, Submit}
@@ -46,41 +47,41 @@ failed_lines (suc count) = codes "FAILED\n" ++ failed_lines count
 abbrev pub IsReported : {O : Type 0} → (O → Option (List ℕ)) → (O → ℕ) → O → List ℕ → O → Type 0
 IsReported held taken old lines new = IsSent held taken old lines new ⊎ IsCutSomewhere held taken old lines new
 
-module _ {O : Type 0} (opening : State) (before after : Option (List ℕ)) (held : O → Option (List ℕ)) (taken : O → ℕ) where
+module _ {R W : Type 0} (opening : State) (sides : SidesView R W) where
   -- some commands are done, none of them malformed, and all of their lines were sent. The bytes after them were read, too
-  pub record HasSent (old : Batches) (first : O) (bytes : List ℕ) (new : Batches) (last : O) : Type 0 where
+  pub record HasSent (old new : Attended R W Batches) (bytes : List ℕ) : Type 0 where
     pub commands : List Command
     pub lines : List ℕ
-    pub done : HasDoneAll opening before after commands old lines bytes new
+    pub done : HasDoneAll opening sides old new (record { commands = commands; lines = lines; rest = bytes })
     pub well_formed : list_any is_malformed commands ≡ false
-    pub sent : IsSent held taken first lines last
+    pub sent : IsSent sides.held sides.taken old.writer lines new.writer
 
   -- the writer failed: of the commands that were read last, 64 at most, all are done, and only the first bytes of their lines were sent
-  pub record IsCutShort (old : Batches) (first : O) (new : Batches) (last : O) : Type 0 where
+  pub record IsCutShort (old new : Attended R W Batches) : Type 0 where
     pub bytes : List ℕ
     pub between : Batches
-    pub middle : O
-    pub earlier : HasSent old first bytes between middle
+    pub middle : W
+    pub earlier : HasSent old (record { reader = new.reader; writer = middle; asked = between }) bytes
     pub commands : List Command
     pub lines : List ℕ
     pub rest : List ℕ
-    pub done : AreDone opening commands between bytes lines rest new
+    pub done : AreDone opening commands between bytes lines rest new.asked
     pub few : length commands ≤ MAX_GROUP
-    pub cut : IsCutSomewhere held taken middle lines last
+    pub cut : IsCutSomewhere sides.held sides.taken middle lines new.writer
 
   -- the keeper failed: of the batches that were read last, 64 at most, the first are done. Each of the others may be kept or not, and none of them is
   -- published. The lines of all were sent, or the first bytes of them, where the writer failed, too
-  pub record IsFailed (old : Batches) (first : O) (new : Batches) (last : O) : Type 0 where
+  pub record IsFailed (old new : Attended R W Batches) : Type 0 where
     pub bytes : List ℕ
     pub between : Batches
-    pub middle : O
-    pub earlier : HasSent old first bytes between middle
+    pub middle : W
+    pub earlier : HasSent old (record { reader = new.reader; writer = middle; asked = between }) bytes
     pub batches : List (List ℕ)
     pub failed : List (List ℕ)
     pub results : List Done
     pub rest : List ℕ
     pub begins : StartWith (map Submit (batches ++ failed)) bytes rest
     pub few : length (batches ++ failed) ≤ MAX_GROUP
-    pub done : AreSubmitted opening between batches results new
-    pub fails : HasFailed opening new failed
-    pub reported : IsReported held taken middle (lines_of results ++ failed_lines (length failed)) last
+    pub done : AreSubmitted opening between batches results new.asked
+    pub fails : HasFailed opening new.asked failed
+    pub reported : IsReported sides.held sides.taken middle (lines_of results ++ failed_lines (length failed)) new.writer

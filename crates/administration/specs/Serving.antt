@@ -3,6 +3,7 @@ use Rattle.std.specs.Prelude.{◌≡◌, ◌≢◌, ◌⊎◌, ℕ, ◌+◌, Boo
 use Rattle.std.specs.List.{list_any}
 use Rattle.std.specs.Io.KnownBytes.{Consumes, IsAtEnd}
 use Rattle.streams.specs.Sent.{IsSent, IsCutSomewhere}
+use Rattle.streams.specs.Sides.{Attended, SidesView}
 use Rattle.batches.specs.Batch.{State}
 use Rattle.mapmachine.specs.declared.reply.Reply.TheVariants as reply
 use Rattle.mapshare.specs.Admin.{Batches, IsAccepted, IsRefused, all_of, with_batch}
@@ -10,6 +11,7 @@ use Rattle.mapshare.specs.declared.admin.Submitted.{Submitted}
 use Rattle.mapshare.specs.declared.admin.Submitted.TheVariants as submitted
 use Rattle.scripts.specs.Transcript.{reply_text}
 use Rattle.administration.specs.Commands.{Command, Submit, Publish, Malformed, first_command}
+use Rattle.administration.specs.declared.client.Client.{Client}
 use Rattle.administration.specs.declared.done.Done.{Done}
 use Rattle.administration.specs.declared.done.Done.TheVariants as done
 
@@ -60,43 +62,60 @@ abbrev pub ends : Done → Bool
 ends done.Malformed = true
 ends what = false
 
--- these commands are at the start of some bytes, before a rest, and only the last may be malformed. One after the other they led from some batches to
--- others, and these lines report that, in the same order
-abbrev pub AreDone : State → List Command → Batches → List ℕ → List ℕ → List ℕ → Batches → Type 0
-AreDone opening [] old bytes lines rest new = (rest ≡ bytes) × (lines ≡ []) × (new ≡ old)
-AreDone opening (command ∷ commands) old bytes lines rest new =
-    (what : Done) × (between : Batches) × (others after : List ℕ)
-    × (first_command bytes ≡ Some (command, after)) × (is_malformed command ≡ true → commands ≡ [])
-    × HasDone opening old command what between × AreDone opening commands between after others rest new
-    × (lines ≡ done_line what ++ others)
+module _ (opening : State) where
+  -- these commands are at the start of some bytes, before a rest, and only the last may be malformed. One after the other they led from some batches to
+  -- others, and these lines report that, in the same order
+  abbrev pub AreDone : List Command → Batches → List ℕ → List ℕ → List ℕ → Batches → Type 0
+  AreDone [] old bytes lines rest new = (rest ≡ bytes) × (lines ≡ []) × (new ≡ old)
+  AreDone (command ∷ commands) old bytes lines rest new =
+      (what : Done) × (between : Batches) × (others after : List ℕ)
+      × (first_command bytes ≡ Some (command, after)) × (is_malformed command ≡ true → commands ≡ [])
+      × HasDone opening old command what between × AreDone commands between after others rest new
+      × (lines ≡ done_line what ++ others)
 
--- these bytes came from a client, and their commands are done
-pub record HasDoneAll (opening : State) (before after : Option (List ℕ)) (commands : List Command) (old : Batches) (lines rest : List ℕ) (new : Batches) : Type 0 where
-  pub bytes : List ℕ
-  pub came : Consumes before after bytes
-  pub done : AreDone opening commands old bytes lines rest new
+-- some commands, the lines that report them, and the bytes after the commands
+pub record ReportedCommands : Type 0 where
+  pub commands : List Command
+  pub lines : List ℕ
+  pub rest : List ℕ
 
 -- a client is served: its last command was malformed; or no whole one is left, and no byte unless the reader failed
 abbrev pub IsServed : List Command → List ℕ → Option (List ℕ) → Bool → Type 0
 IsServed commands rest left failed =
     (list_any is_malformed commands ≡ true) ⊎ ((first_command rest ≡ None) × (IsAtEnd left ⊎ (failed ≡ true)))
 
--- the writer failed. All commands before the last are done and all of their lines were sent. None of them is malformed, since nothing is read after a
--- malformed one. The last is done, too, and only a prefix of its line was sent
-pub record IsStopped {O : Type 0} (opening : State) (before after : Option (List ℕ)) (held : O → Option (List ℕ)) (taken : O → ℕ) (old : Batches) (first : O) (new : Batches) (last : O) : Type 0 where
-  pub commands : List Command
-  pub lines : List ℕ
-  pub bytes : List ℕ
-  pub between : Batches
-  pub done : HasDoneAll opening before after commands old lines bytes between
-  pub well_formed : list_any is_malformed commands ≡ false
-  pub command : Command
-  pub what : Done
-  pub front : first_command bytes ≡ Some (command, [])
-  pub then : HasDone opening between command what new
-  pub middle : O
-  pub sent : IsSent held taken first lines middle
-  pub cut : IsCutSomewhere held taken middle (done_line what) last
+module _ {R W : Type 0} (opening : State) (sides : SidesView R W) where
+  -- bytes came from a client, and their commands are done
+  pub record HasDoneAll (old new : Attended R W Batches) (reported : ReportedCommands) : Type 0 where
+    pub bytes : List ℕ
+    pub came : Consumes (sides.left old.reader) (sides.left new.reader) bytes
+    pub done : AreDone opening reported.commands old.asked bytes reported.lines reported.rest new.asked
+
+  -- all commands up to the client's end, or up to a malformed one, are done, and all of their lines were sent
+  pub record HasAdministered (old new : Attended R W Batches) : Type 0 where
+    pub reported : ReportedCommands
+    pub done : HasDoneAll old new reported
+    pub sent : IsSent sides.held sides.taken old.writer reported.lines new.writer
+    pub ended : IsServed reported.commands reported.rest (sides.left new.reader) (sides.failed new.reader)
+
+  -- the writer failed. All commands before the last are done and all of their lines were sent. None of them is malformed, since nothing is read after a
+  -- malformed one. The last is done, too, and only a prefix of its line was sent
+  pub record IsStopped (old new : Attended R W Batches) : Type 0 where
+    pub reported : ReportedCommands
+    pub between : Batches
+    pub middle : W
+    pub done : HasDoneAll old (record { reader = new.reader; writer = middle; asked = between }) reported
+    pub well_formed : list_any is_malformed reported.commands ≡ false
+    pub command : Command
+    pub what : Done
+    pub front : first_command reported.rest ≡ Some (command, [])
+    pub then : HasDone opening between command what new.asked
+    pub sent : IsSent sides.held sides.taken old.writer reported.lines middle
+    pub cut : IsCutSomewhere sides.held sides.taken middle (done_line what) new.writer
+
+-- a client of an administrator, with the batches so far
+abbrev pub attended : {R W : Type 0} → Client R W → Batches → Attended R W Batches
+attended client batches = record { reader = client.reader; writer = client.writer; asked = batches }
 
 -- one after the other these batches led from some to others, and these are their results
 abbrev pub AreSubmitted : State → Batches → List (List ℕ) → List Done → Batches → Type 0

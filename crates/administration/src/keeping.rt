@@ -1,16 +1,19 @@
 //! Serving a client whose batches are kept.
 
-ghost use Rattle.std.specs.Prelude.{◌≡◌, ◌≢◌, ◌≤◌, ◌++◌, ℕ, List, [], length, take, IfOk, IfSome, IsErrOf, MatchOption, MatchResult, OnErr, OnOk, true};
-ghost use Rattle.streams.specs.Sent.{IsSent};
+ghost use Rattle.std.specs.Prelude.{◌≡◌, ◌≢◌, ◌≤◌, ◌-◌, ◌++◌, ℕ, List, [], length, take, IfOk, IfSome, IsErrOf, MatchOption, MatchResult, OnErr, OnOk, false, true};
+ghost use Rattle.std.specs.Result.{is_err};
+ghost use Rattle.streams.specs.Sent.{IsSent, IsCutSomewhere};
+ghost use Rattle.streams.specs.Sides.{sides_view};
 ghost use Rattle.journal.specs.Texts.{texts_of};
 ghost use Rattle.mapshare.specs.Admin.{Batches, all_of};
 ghost use Rattle.administration.specs.Commands.{Command};
 ghost use Rattle.administration.specs.Keeping.{HasFailed, IsCutShort, IsFailed, IsKeptSince, IsReported, failed_lines, results_of};
 ghost use Rattle.administration.specs.Reading.{IsOther};
-ghost use Rattle.administration.specs.Serving.{ArePublished, AreSubmitted, HasDone, HasDoneAll, IsServed, lines_of};
+ghost use Rattle.administration.specs.Serving.{ArePublished, AreSubmitted, HasAdministered, HasDone, attended, lines_of};
 ghost use Rattle.administration.specs.declared.group.TheConstants.{MAX_GROUP};
 ghost use Rattle.administration.specs.declared.keeping.AdministerFault.TheVariants as fault;
 
+use crate::client::Client;
 use crate::done::{Done, send_line};
 use crate::group::{Group, Next, Other, read_group};
 use crate::results::{Front, Results, send_results};
@@ -18,7 +21,7 @@ use crate::serving::publish;
 use journalfile::Keeps;
 use mapshare::{Accepted, Admin, KeepFailed, Retried, Sharing};
 use std::sync::Wait;
-use streams::{BufferedSource, Sink, put_all};
+use streams::{BufferedSource, Sink, Source, put_all};
 
 /// Why a client isn't served to its end.
 #[derive(Clone, Copy, Debug, PartialEq, Eq)]
@@ -130,44 +133,60 @@ fn send_failures<O: Sink>(writer: &mut O, results: &Results, failed: usize)
     }
 }
 
+// Writes the lines that report the results of the first of so many batches. Where the keeper failed, each of the others gets a line, too.
+fn report<O: Sink>(
+    writer: &mut O,
+    results: &Results,
+    batches: usize,
+    kept: Result<(), KeepFailed>,
+) -> Result<(), AdministerFault>
+    requires few { length results.now ≤ batches }
+    ensures sent { OnOk result ((is_err kept ≡ false) × IsSent O.held O.taken writer.old (lines_of results.now) writer.new) }
+    ensures cut { IsErrOf result fault.PutFailed
+        → (is_err kept ≡ false) × IsCutSomewhere O.held O.taken writer.old (lines_of results.now) writer.new }
+    ensures failed { IsErrOf result fault.KeepFailed
+        → (is_err kept ≡ true)
+        × IsReported O.held O.taken writer.old (lines_of results.now ++ failed_lines (batches - length results.now)) writer.new }
+    ensures flag { MatchResult result (λ _. O.put_failed writer.new ≡ O.put_failed writer.old)
+        (λ why. why ≡ fault.PutFailed → O.put_failed writer.new ≡ true) }
+{
+    if kept.is_err() {
+        send_failures(writer, results, batches - results.as_slice().len());
+        return Err(AdministerFault::KeepFailed);
+    }
+    send_results(writer, results).map_err(|_| AdministerFault::PutFailed)
+}
+
 /// Serves a client as `administer` does, and keeps each batch before it is published. Batches that came together are kept by one sync, and are published
 /// together, before the lines of all are written. Where the keeper fails, the client is sent `FAILED` for each batch that it may not have kept, and is
 /// served no more.
 pub fn administer_kept<S: Sharing, K: Keeps, R: AllocGlobal + Wait, I: BufferedSource, O: Sink>(
     rt: &R,
-    admin: Admin<S>,
+    mut admin: Admin<S>,
     keeper: &mut K,
-    reader: &mut I,
-    writer: &mut O,
+    client: &mut Client<I, O>,
 ) -> (Admin<S>, Result<(), AdministerFault>)
     requires ready { (kept : List (List ℕ)) × K.keeps keeper.old kept }
-    ensures served { OnOk result.1 ((commands : List Command) × (lines rest : List ℕ)
-        × HasDoneAll S.opening (I.Source.left reader.old) (I.Source.left reader.new) commands admin lines rest result.0
-        × IsSent O.held O.taken writer.old lines writer.new
-        × IsServed commands rest (I.Source.left reader.new) (I.Source.take_failed reader.new)) }
+    ensures served { OnOk result.1
+        (HasAdministered S.opening (sides_view ⟦<I as Source>⟧ ⟦<O as Sink>⟧) (attended client.old admin) (attended client.new result.0)) }
     ensures stopped { IsErrOf result.1 fault.PutFailed
-        → IsCutShort S.opening (I.Source.left reader.old) (I.Source.left reader.new) O.held O.taken admin writer.old result.0 writer.new }
+        → IsCutShort S.opening (sides_view ⟦<I as Source>⟧ ⟦<O as Sink>⟧) (attended client.old admin) (attended client.new result.0) }
     ensures failed { IsErrOf result.1 fault.KeepFailed
-        → IsFailed S.opening (I.Source.left reader.old) (I.Source.left reader.new) O.held O.taken admin writer.old result.0 writer.new }
+        → IsFailed S.opening (sides_view ⟦<I as Source>⟧ ⟦<O as Sink>⟧) (attended client.old admin) (attended client.new result.0) }
 
     // All accepted batches are kept, unless the keeper failed.
     ensures kept { (kept : List (List ℕ)) → K.keeps keeper.old kept → MatchResult result.1
         (λ _. IsKeptSince K.keeps admin kept result.0 keeper.new)
         (λ why. why ≡ fault.PutFailed → IsKeptSince K.keeps admin kept result.0 keeper.new) }
-    ensures flag { MatchResult result.1 (λ _. O.put_failed writer.new ≡ O.put_failed writer.old)
-        (λ why. why ≡ fault.PutFailed → O.put_failed writer.new ≡ true) }
+    ensures flag { MatchResult result.1 (λ _. O.put_failed client.new.writer ≡ O.put_failed client.old.writer)
+        (λ why. why ≡ fault.PutFailed → O.put_failed client.new.writer ≡ true) }
 {
-    let mut admin = admin;
     for _ in rt.forever() {
-        let Group { batches, next } = read_group(rt.alloc(), reader);
+        let Group { batches, next } = read_group(rt.alloc(), &mut client.reader);
         let (after, results, kept) = accept_all(rt, admin, keeper, batches.as_slice());
         admin = after;
-        if kept.is_err() {
-            send_failures(writer, &results, batches.len() - results.as_slice().len());
-            return (admin, Err(AdministerFault::KeepFailed));
-        }
-        if send_results(writer, &results).is_err() {
-            return (admin, Err(AdministerFault::PutFailed));
+        if let Err(fault) = report(&mut client.writer, &results, batches.len(), kept) {
+            return (admin, Err(fault));
         }
         let other = match next {
             Next::Nothing => continue,
@@ -176,7 +195,7 @@ pub fn administer_kept<S: Sharing, K: Keeps, R: AllocGlobal + Wait, I: BufferedS
         };
         let (after, done) = perform_other(rt, admin, other);
         admin = after;
-        if send_line(writer, done).is_err() {
+        if send_line(&mut client.writer, done).is_err() {
             return (admin, Err(AdministerFault::PutFailed));
         }
         if done.ends() {

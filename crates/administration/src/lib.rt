@@ -10,6 +10,7 @@
 //! within 33 bytes is *malformed*, as is any other that is no command. The *keeper* keeps each accepted batch.
 #![tactic(auto)]
 
+mod client;
 mod done;
 mod group;
 mod keeping;
@@ -18,6 +19,7 @@ mod reading;
 mod results;
 mod serving;
 
+pub use client::Client;
 pub use done::Done;
 pub use group::MAX_GROUP;
 pub use keeping::{AdministerFault, administer_kept};

@@ -1,11 +1,12 @@
 ghost use Rattle.std.specs.Prelude.{◌≡◌, ℕ, List, OnOk, OnErr, MatchResult, true};
-ghost use Rattle.streams.specs.Sent.{IsSent, IsCutSomewhere};
+ghost use Rattle.streams.specs.Sides.{sides_view};
 ghost use Rattle.mapshare.specs.Admin.{Batches, all_of};
 ghost use Rattle.administration.specs.Commands.{Command, Publish, Submit, first_command};
 ghost use Rattle.administration.specs.Reading.{IsHeldOf};
-ghost use Rattle.administration.specs.Serving.{HasDone, HasDoneAll, IsServed, IsStopped, done_of};
+ghost use Rattle.administration.specs.Serving.{HasAdministered, HasDone, IsStopped, attended, done_of};
 ghost use Rattle.administration.specs.declared.done.Done.{Done};
 
+use crate::client::Client;
 use crate::done::{Done, send_line};
 use crate::reading::{ReadCommand, read_command};
 use mapshare::{Admin, Retried, Sharing, Submitted};
@@ -64,25 +65,23 @@ fn perform<S: Sharing, R: Wait>(rt: &R, admin: Admin<S>, asked: ReadCommand) -> 
 /// for the client, and for readers of the map that still read an older state.
 pub fn administer<S: Sharing, R: AllocGlobal + Wait, I: Source, O: Sink>(
     rt: &R,
-    admin: Admin<S>,
-    reader: &mut I,
-    writer: &mut O,
+    mut admin: Admin<S>,
+    client: &mut Client<I, O>,
 ) -> (Admin<S>, Result<(), PutFailed>)
-    ensures served { OnOk result.1 ((commands : List Command) × (lines rest : List ℕ)
-        × HasDoneAll S.opening (I.left reader.old) (I.left reader.new) commands admin lines rest result.0
-        × IsSent O.held O.taken writer.old lines writer.new
-        × IsServed commands rest (I.left reader.new) (I.take_failed reader.new)) }
-    ensures stopped { OnErr result.1 (IsStopped S.opening (I.left reader.old) (I.left reader.new) O.held O.taken admin writer.old result.0 writer.new) }
-    ensures flag { MatchResult result.1 (λ _. O.put_failed writer.new ≡ O.put_failed writer.old) (λ _. O.put_failed writer.new ≡ true) }
+    ensures served { OnOk result.1
+        (HasAdministered S.opening (sides_view ⟦<I as Source>⟧ ⟦<O as Sink>⟧) (attended client.old admin) (attended client.new result.0)) }
+    ensures stopped { OnErr result.1
+        (IsStopped S.opening (sides_view ⟦<I as Source>⟧ ⟦<O as Sink>⟧) (attended client.old admin) (attended client.new result.0)) }
+    ensures flag { MatchResult result.1 (λ _. O.put_failed client.new.writer ≡ O.put_failed client.old.writer)
+        (λ _. O.put_failed client.new.writer ≡ true) }
 {
-    let mut admin = admin;
     for _ in rt.forever() {
-        let Some(asked) = read_command(rt.alloc(), reader) else {
+        let Some(asked) = read_command(rt.alloc(), &mut client.reader) else {
             return (admin, Ok(()));
         };
         let (after, done) = perform(rt, admin, asked);
         admin = after;
-        if send_line(writer, done).is_err() {
+        if send_line(&mut client.writer, done).is_err() {
             return (admin, Err(PutFailed));
         }
         if done.ends() {

@@ -4,7 +4,7 @@ use crate::inputs::{ADMINISTRATOR, ADMINISTRATOR_ROWS};
 use crate::made::tally_of;
 use crate::maps::some_machine;
 use crate::tally::Tally;
-use administration::administer;
+use administration::{Client, administer};
 use history::Blank;
 use mapmachine::Machine;
 use mapshare::{Sharing, open};
@@ -28,12 +28,14 @@ fn answered<S: Sharing, R: AllocGlobal + Wait>(
     let Ok((admin, _readers)) = open::<S, R>(rt, blank, machine, 1) else {
         return Err(AllocError);
     };
-    let mut reader = Flagged::new(bytes);
-    let mut writer = Flagged::new(Vec::new(alloc));
-    let (admin, served) = administer(rt, admin, &mut reader, &mut writer);
+    let mut client = Client {
+        reader: Flagged::new(bytes),
+        writer: Flagged::new(Vec::new(alloc)),
+    };
+    let (admin, served) = administer(rt, admin, &mut client);
     admin.close(rt);
     match served {
-        Ok(()) => Ok(writer.into_inner()),
+        Ok(()) => Ok(client.writer.into_inner()),
         Err(_) => Err(AllocError),
     }
 }

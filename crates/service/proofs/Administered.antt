@@ -1,9 +1,8 @@
 -- The bytes that an administrator's client got through a sink in front of its own.
-use Rattle.std.proofs.Common.{◌≡◌, ◌⊎◌, inl, inr, ℕ, ◌+◌, ◌-◌, Bool, List, ◌++◌, Option, None, Some, Result, Ok, Err, refl}
+use Rattle.std.proofs.Common.{◌≡◌, inl, inr, ℕ, ◌-◌, List, Option, Result, Ok, Err, refl}
 use Rattle.std.specs.Prelude.{OnOk, IsErr, IsErrOf, MatchResult, true}
-use Rattle.administration.specs.Commands.{Command}
 use Rattle.administration.specs.Keeping.{HasSent, IsCutShort, IsFailed, IsReported}
-use Rattle.administration.specs.Serving.{HasDoneAll, IsServed}
+use Rattle.administration.specs.Serving.{HasAdministered, HasDoneAll, ReportedCommands}
 use Rattle.administration.specs.declared.keeping.AdministerFault.{AdministerFault}
 use Rattle.administration.specs.declared.keeping.AdministerFault.TheVariants.{PutFailed, KeepFailed}
 use Rattle.batches.specs.Batch.{State}
@@ -11,8 +10,8 @@ use Rattle.console.specs.Console.{Outcome}
 use Rattle.console.specs.declared.failure.Failure.TheVariants.{JournalFailed}
 use Rattle.mapshare.specs.Admin.{Batches}
 use Rattle.mapshare.specs.declared.admin.KeepFailed as keep
-use Rattle.streams.specs.Sent.{IsSent, IsCut, IsCutSomewhere}
-use Rattle.network.specs.Opening.{Attended}
+use Rattle.streams.specs.Sent.{IsSent, IsCutSomewhere}
+use Rattle.streams.specs.Sides.{Attended, SidesView}
 use Rattle.service.specs.Administering.{Administers, fault_of, has_kept}
 
 module _ {A B : Type 0} (within : A → B) (held : B → Option (List ℕ)) (taken : B → ℕ) where
@@ -27,65 +26,76 @@ module _ {A B : Type 0} (within : A → B) (held : B → Option (List ℕ)) (tak
   reported-within old text new (inl sent) = inl (sent-within old text new sent)
   reported-within old text new (inr cut) = inr (cut-within old text new cut)
 
-  module _ (opening : State) (before after : Option (List ℕ)) (old : Batches) (first : A) where
-    earlier-within : (bytes : List ℕ) (new : Batches) (last : A) → HasSent opening before after (λ s. held (within s)) (λ s. taken (within s)) old first bytes new last
-        → HasSent opening before after held taken old (within first) bytes new (within last)
-    earlier-within bytes new last sent = record {
-      commands = sent.commands;
-      lines = sent.lines;
-      done = sent.done;
-      well_formed = sent.well_formed;
-      sent = sent-within first sent.lines last sent.sent;
-    }
+module _ {R A W : Type 0} (within : A → W) (sides : SidesView R W) (opening : State) where
+  -- what is known of the reader and of the outer sink
+  abbrev pub outer : SidesView R A
+  outer = record { left = sides.left; failed = sides.failed; held = λ s. sides.held (within s); taken = λ s. sides.taken (within s) }
 
-    stopped-within : (new : Batches) (last : A) → IsCutShort opening before after (λ s. held (within s)) (λ s. taken (within s)) old first new last
-        → IsCutShort opening before after held taken old (within first) new (within last)
-    stopped-within new last short = record {
-      bytes = short.bytes;
-      between = short.between;
-      middle = within short.middle;
-      earlier = earlier-within short.bytes short.between short.middle short.earlier;
-      commands = short.commands;
-      lines = short.lines;
-      rest = short.rest;
-      done = short.done;
-      few = short.few;
-      cut = cut-within short.middle short.lines last short.cut;
-    }
+  -- a client with the inner sink
+  abbrev pub inside : Attended R A Batches → Attended R W Batches
+  inside client = record { reader = client.reader; writer = within client.writer; asked = client.asked }
 
-    failed-within : (new : Batches) (last : A) → IsFailed opening before after (λ s. held (within s)) (λ s. taken (within s)) old first new last
-        → IsFailed opening before after held taken old (within first) new (within last)
-    failed-within new last is = record {
-      bytes = is.bytes;
-      between = is.between;
-      middle = within is.middle;
-      earlier = earlier-within is.bytes is.between is.middle is.earlier;
-      batches = is.batches;
-      failed = is.failed;
-      results = is.results;
-      rest = is.rest;
-      begins = is.begins;
-      few = is.few;
-      done = is.done;
-      fails = is.fails;
-      reported = reported-within is.middle _ last is.reported;
-    }
+  done-within : (old new : Attended R A Batches) (reported : ReportedCommands) → HasDoneAll opening outer old new reported → HasDoneAll opening sides (inside old) (inside new) reported
+  done-within old new reported all = record { bytes = all.bytes; came = all.came; done = all.done }
+
+  earlier-within : (old new : Attended R A Batches) (bytes : List ℕ) → HasSent opening outer old new bytes → HasSent opening sides (inside old) (inside new) bytes
+  earlier-within old new bytes sent = record {
+    commands = sent.commands;
+    lines = sent.lines;
+    done = done-within old new _ sent.done;
+    well_formed = sent.well_formed;
+    sent = sent-within within sides.held sides.taken old.writer sent.lines new.writer sent.sent;
+  }
+
+  whole-within : (old new : Attended R A Batches) → HasAdministered opening outer old new → HasAdministered opening sides (inside old) (inside new)
+  whole-within old new all = record {
+    reported = all.reported;
+    done = done-within old new all.reported all.done;
+    sent = sent-within within sides.held sides.taken old.writer all.reported.lines new.writer all.sent;
+    ended = all.ended;
+  }
+
+  stopped-within : (old new : Attended R A Batches) → IsCutShort opening outer old new → IsCutShort opening sides (inside old) (inside new)
+  stopped-within old new short = record {
+    bytes = short.bytes;
+    between = short.between;
+    middle = within short.middle;
+    earlier = earlier-within old _ short.bytes short.earlier;
+    commands = short.commands;
+    lines = short.lines;
+    rest = short.rest;
+    done = short.done;
+    few = short.few;
+    cut = cut-within within sides.held sides.taken short.middle short.lines new.writer short.cut;
+  }
+
+  failed-within : (old new : Attended R A Batches) → IsFailed opening outer old new → IsFailed opening sides (inside old) (inside new)
+  failed-within old new is = record {
+    bytes = is.bytes;
+    between = is.between;
+    middle = within is.middle;
+    earlier = earlier-within old _ is.bytes is.earlier;
+    batches = is.batches;
+    failed = is.failed;
+    results = is.results;
+    rest = is.rest;
+    begins = is.begins;
+    few = is.few;
+    done = is.done;
+    fails = is.fails;
+    reported = reported-within within sides.held sides.taken is.middle _ new.writer is.reported;
+  }
 
   -- so an administrator was served, whatever the outcome
-  pub administered : {R : Type 0} (opening : State) (left : R → Option (List ℕ)) (failed : R → Bool) (served : Result (Unit {0}) AdministerFault) (reader rest : R) (old new : Batches) (first last : A) (written : ℕ)
-      → OnOk served ((commands : List Command) × (lines bytes : List ℕ) × HasDoneAll opening (left reader) (left rest) commands old lines bytes new
-      × IsSent (λ s. held (within s)) (λ s. taken (within s)) first lines last × IsServed commands bytes (left rest) (failed rest))
-      → (IsErrOf served PutFailed → IsCutShort opening (left reader) (left rest) (λ s. held (within s)) (λ s. taken (within s)) old first new last)
-      → (IsErrOf served KeepFailed → IsFailed opening (left reader) (left rest) (λ s. held (within s)) (λ s. taken (within s)) old first new last)
-      → written ≡ taken (within last) - taken (within first)
-      → Administers opening left failed held taken (has_kept served) (fault_of served written)
-      (record { reader = reader; writer = within first; asked = old }) (record { reader = rest; writer = within last; asked = new })
-  administered opening left failed (Ok done) reader rest old new first last written (commands, lines, bytes, all, sent, is_served) stopped ended count =
-      (commands, lines, bytes, all, sent-within first lines last sent, is_served)
-  administered opening left failed (Err PutFailed) reader rest old new first last written ok stopped ended count =
-      (stopped-within opening (left reader) (left rest) old first new last (stopped refl), count)
-  administered opening left failed (Err KeepFailed) reader rest old new first last written ok stopped ended count =
-      failed-within opening (left reader) (left rest) old first new last (ended refl)
+  pub administered : (served : Result (Unit {0}) AdministerFault) (old new : Attended R A Batches) (written : ℕ)
+      → OnOk served (HasAdministered opening outer old new)
+      → (IsErrOf served PutFailed → IsCutShort opening outer old new)
+      → (IsErrOf served KeepFailed → IsFailed opening outer old new)
+      → written ≡ outer.taken new.writer - outer.taken old.writer
+      → Administers opening sides (has_kept served) (fault_of served written) (inside old) (inside new)
+  administered (Ok done) old new written all stopped ended count = whole-within old new all
+  administered (Err PutFailed) old new written ok stopped ended count = (stopped-within old new (stopped refl), count)
+  administered (Err KeepFailed) old new written ok stopped ended count = failed-within old new (ended refl)
 
 -- the accepted batches are kept, unless the keeper failed
 pub kept-of : (served : Result (Unit {0}) AdministerFault) (P : Type 0) → MatchResult served (λ _. P) (λ why. why ≡ PutFailed → P) → has_kept served ≡ true → P

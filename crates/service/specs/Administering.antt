@@ -1,16 +1,14 @@
 -- One connection of an administrator (docs/SERVICE.md, "Administration").
-use Rattle.std.specs.Prelude.{◌≡◌, ℕ, ◌-◌, Bool, true, false, List, Option, None, Some, Result, Ok, Err}
-use Rattle.administration.specs.Commands.{Command}
+use Rattle.std.specs.Prelude.{◌≡◌, ℕ, ◌-◌, Bool, true, false, Option, None, Some, Result, Ok, Err}
 use Rattle.administration.specs.Keeping.{IsCutShort, IsFailed}
-use Rattle.administration.specs.Serving.{HasDoneAll, IsServed}
+use Rattle.administration.specs.Serving.{HasAdministered}
 use Rattle.administration.specs.declared.keeping.AdministerFault.{AdministerFault}
 use Rattle.administration.specs.declared.keeping.AdministerFault.TheVariants.{PutFailed, KeepFailed}
 use Rattle.batches.specs.Batch.{State}
 use Rattle.httpedge.specs.declared.edge.EdgeFault.{EdgeFault}
-use Rattle.httpedge.specs.declared.edge.EdgeFault.TheVariants.{Read, Write}
+use Rattle.httpedge.specs.declared.edge.EdgeFault.TheVariants.{Write}
 use Rattle.mapshare.specs.Admin.{Batches}
-use Rattle.streams.specs.Sent.{IsSent}
-use Rattle.network.specs.Opening.{Attended}
+use Rattle.streams.specs.Sides.{Attended, SidesView}
 
 -- the fault with which a connection is closed: its writer failed, after so many bytes
 abbrev pub fault_of : Result (Unit {0}) AdministerFault → ℕ → Option EdgeFault
@@ -25,16 +23,10 @@ has_kept (Err PutFailed) = true
 has_kept (Err KeepFailed) = false
 
 -- an administrator's commands were done and answered: all up to their end, to lines that weren't written, or to batches that the keeper failed to
--- keep. Of all lines so many bytes were sent. `left` and `failed` are of a reader, `held` and `taken` of a writer
-abbrev pub Administers : {R W : Type 0} → State → (R → Option (List ℕ)) → (R → Bool) → (W → Option (List ℕ)) → (W → ℕ) → Bool → Option EdgeFault → Attended R W Batches → Attended R W Batches → Type 0
-Administers opening left failed held taken true None old new =
-    (commands : List Command) × (lines rest : List ℕ)
-    × HasDoneAll opening (left old.reader) (left new.reader) commands old.asked lines rest new.asked
-    × IsSent held taken old.writer lines new.writer
-    × IsServed commands rest (left new.reader) (failed new.reader)
-Administers opening left failed held taken false None old new =
-    IsFailed opening (left old.reader) (left new.reader) held taken old.asked old.writer new.asked new.writer
-Administers opening left failed held taken true (Some (Write written)) old new =
-    IsCutShort opening (left old.reader) (left new.reader) held taken old.asked old.writer new.asked new.writer
-    × (written ≡ taken new.writer - taken old.writer)
-Administers opening left failed held taken kept fault old new = ⊥
+-- keep. Of all lines so many bytes were sent
+abbrev pub Administers : {R W : Type 0} → State → SidesView R W → Bool → Option EdgeFault → Attended R W Batches → Attended R W Batches → Type 0
+Administers opening sides true None old new = HasAdministered opening sides old new
+Administers opening sides false None old new = IsFailed opening sides old new
+Administers opening sides true (Some (Write written)) old new =
+    IsCutShort opening sides old new × (written ≡ sides.taken new.writer - sides.taken old.writer)
+Administers opening sides kept fault old new = ⊥

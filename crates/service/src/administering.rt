@@ -1,13 +1,14 @@
 //! The connections of administrators: one after the other, each until it ends, and each accepted batch kept.
 
 ghost use Rattle.std.specs.Prelude.{◌≡◌, ℕ, List, IfSome, MatchOption, OnOk, None, true};
+ghost use Rattle.streams.specs.Sides.{sides_view};
 ghost use Rattle.administration.specs.Keeping.{IsKeptSince};
 ghost use Rattle.service.specs.Administering.{Administers, fault_of, has_kept};
 ghost use Rattle.network.specs.Opening.{IsServedOne};
 
 use crate::clients::queue_of;
 use accesslog::{LogQueue, LoggedSink};
-use administration::{AdministerFault, administer_kept};
+use administration::{AdministerFault, Client, administer_kept};
 use httpedge::EdgeFault;
 use journalfile::Keeps;
 use mapshare::{Admin, KeepFailed, Sharing};
@@ -15,7 +16,7 @@ use network::{Accepting, Acceptor, Administrators, Opens, Plan, Port, PortFor, R
 use std::alloc::Global;
 use std::sync::Arc;
 use std::sync::atomic::{AtomicBool, Ordering};
-use streams::Sink;
+use streams::{Sink, Source};
 
 // A connection of an administrator that was closed.
 #[derive(Drop)]
@@ -63,7 +64,8 @@ fn administer_one<S: Sharing, K: Keeps, R: Runtime, C: Opens>(
     requires ready { (kept : List (List ℕ)) × K.keeps keeper.old kept }
     ensures served { MatchOption result.1 (C.opens numbered.connection None × (result.0 ≡ admin) × (keeper.new ≡ keeper.old))
         (λ attempt. IsServedOne C.opens C.closes
-        (Administers S.opening C.Reader.Source.left C.Reader.Source.take_failed C.Writer.Sink.held C.Writer.Sink.taken attempt.has_kept) numbered.connection admin result.0 attempt.closed) }
+        (Administers S.opening (sides_view ⟦<C::Reader as Source>⟧ ⟦<C::Writer as Sink>⟧) attempt.has_kept)
+        numbered.connection admin result.0 attempt.closed) }
     ensures kept { (kept : List (List ℕ)) → K.keeps keeper.old kept
         → IfSome result.1 (λ attempt. attempt.has_kept ≡ true → IsKeptSince K.keeps admin kept result.0 keeper.new) }
 {
@@ -75,11 +77,13 @@ fn administer_one<S: Sharing, K: Keeps, R: Runtime, C: Opens>(
     let Some(sides) = connection.open(rt.alloc()) else {
         return (admin, None);
     };
-    let Sides { mut reader, writer } = sides;
+    let Sides { reader, writer } = sides;
     let before = writer.taken();
-    let mut logged = LoggedSink::new(rt.alloc(), writer, number, log);
-    let (admin, served) = administer_kept(rt, admin, keeper, &mut reader, &mut logged);
-    let writer = logged.into_inner();
+    let writer = LoggedSink::new(rt.alloc(), writer, number, log);
+    let mut client = Client { reader, writer };
+    let (admin, served) = administer_kept(rt, admin, keeper, &mut client);
+    let Client { reader, writer } = client;
+    let writer = writer.into_inner();
     let fault = fault_of(served, writer.taken().saturating_sub(before));
     let attempt = Attempt {
         closed: C::close(Sides { reader, writer }, fault),

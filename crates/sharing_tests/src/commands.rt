@@ -2,7 +2,7 @@ ghost use Rattle.std.specs.Prelude.{◌≡◌};
 
 use crate::maps::{machine, shown};
 use crate::memory::{Coming, Going};
-use administration::administer;
+use administration::{Client, administer};
 use history::Blank;
 use mapmachine::Machine;
 use mapshare::{Admin, Sharing, open};
@@ -15,8 +15,7 @@ use test_tables::{TableFault, check_rows};
 // A connection to an administrator, and whether its writer has failed.
 #[derive(Drop)]
 struct Pipe {
-    reader: Flagged<Coming>,
-    writer: Flagged<Going>,
+    client: Client<Flagged<Coming>, Flagged<Going>>,
     failed: bool,
 }
 
@@ -28,9 +27,12 @@ fn pipe_of(
     fails: bool,
     room: usize,
 ) -> Result<Pipe, AllocError> {
-    Ok(Pipe {
+    let client = Client {
         reader: Flagged::new(Coming::new(Vec::from_slice(alloc, bytes)?, at_once, fails)),
         writer: Flagged::new(Going::new(alloc, room)),
+    };
+    Ok(Pipe {
+        client,
         failed: false,
     })
 }
@@ -43,7 +45,7 @@ fn serve_pipes<S: Sharing, R: AllocGlobal + Wait>(
 ) -> Admin<S> {
     let mut admin = admin;
     for pipe in pipes.iter_mut() {
-        let (after, served) = administer(rt, admin, &mut pipe.reader, &mut pipe.writer);
+        let (after, served) = administer(rt, admin, &mut pipe.client);
         admin = after;
         pipe.failed = served.is_err();
     }
@@ -84,8 +86,8 @@ fn administered<R: AllocGlobal + Wait>(
 
 // The end of a connection: its lines, how many bytes were not read, and whether its writer failed.
 fn end_of(alloc: Global, pipe: &Pipe) -> Result<String, AllocError> {
-    let lines = shown(alloc, &pipe.writer.inner().held)?;
-    let left = match pipe.reader.inner().left() {
+    let lines = shown(alloc, &pipe.client.writer.inner().held)?;
+    let left = match pipe.client.reader.inner().left() {
         0 => String::new(alloc),
         left => format!(in alloc; " {left} left")?,
     };
@@ -289,9 +291,12 @@ fn result_of_large<R: AllocGlobal + Wait>(
     let line = format!(in alloc; "BATCH {announced}\n")?;
     let bytes = long(alloc, line.as_str(), count.parse().unwrap_or(0), "RETRY\n")?;
     let mut pipes = Vec::new(alloc);
-    pipes.push(Pipe {
+    let client = Client {
         reader: Flagged::new(Coming::new(bytes, 1_000_000, false)),
         writer: Flagged::new(Going::new(alloc, usize::MAX)),
+    };
+    pipes.push(Pipe {
+        client,
         failed: false,
     })?;
     ends_of(alloc, &administered(rt, alloc, pipes)?)

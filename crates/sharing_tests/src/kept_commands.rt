@@ -2,7 +2,7 @@ ghost use Rattle.std.specs.Prelude.{◌≡◌};
 
 use crate::maps::{machine, shown};
 use crate::memory::{Coming, Going};
-use administration::{AdministerFault, administer_kept};
+use administration::{AdministerFault, Client, administer_kept};
 use history::Blank;
 use journalfile::{KeepFault, Keeps};
 use mapmachine::Machine;
@@ -44,8 +44,7 @@ impl Keeps for Counted {
 // A connection whose batches are kept.
 #[derive(Drop)]
 struct Pipe {
-    reader: Flagged<BufReader<Coming>>,
-    writer: Flagged<Going>,
+    client: Client<Flagged<BufReader<Coming>>, Flagged<Going>>,
     keeper: Counted,
 }
 
@@ -55,14 +54,14 @@ fn end_of(
     pipe: &Pipe,
     served: Result<(), AdministerFault>,
 ) -> Result<String, AllocError> {
-    let lines = shown(alloc, &pipe.writer.inner().held)?;
+    let lines = shown(alloc, &pipe.client.writer.inner().held)?;
     let fault = match served {
         Ok(()) => "",
         Err(AdministerFault::PutFailed) => " cut",
         Err(AdministerFault::KeepFailed) => " failed",
     };
     let Counted { kept, calls, .. } = pipe.keeper;
-    let reader = pipe.reader.inner();
+    let reader = pipe.client.reader.inner();
     let left = reader
         .buffer()
         .len()
@@ -81,13 +80,7 @@ fn serve<S: Sharing, R: AllocGlobal + Wait>(
     requires opening { machine.now ≡ S.opening }
 {
     let (admin, _readers) = open::<S, R>(rt, blank, machine, 1).ok()?;
-    let (admin, served) = administer_kept(
-        rt,
-        admin,
-        &mut pipe.keeper,
-        &mut pipe.reader,
-        &mut pipe.writer,
-    );
+    let (admin, served) = administer_kept(rt, admin, &mut pipe.keeper, &mut pipe.client);
     admin.close(rt);
     Some(end_of(rt.alloc(), &pipe, served))
 }
@@ -110,9 +103,12 @@ fn result_of_row<R: AllocGlobal + Wait>(rt: &R, row: &str) -> Result<String, All
     let Ok(reader) = BufReader::new(alloc, coming) else {
         return Err(AllocError);
     };
-    let pipe = Pipe {
+    let client = Client {
         reader: Flagged::new(reader),
         writer: Flagged::new(Going::new(alloc, room)),
+    };
+    let pipe = Pipe {
+        client,
         keeper: Counted {
             kept: 0,
             calls: 0,

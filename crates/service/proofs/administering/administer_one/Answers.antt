@@ -1,24 +1,26 @@
 use Rattle.std.proofs.Common.{◌≡◌, ◌∙◌, ◌-◌, sym, ap, ap₂}
+use Rattle.streams.specs.Sides.{sides_view}
 use Rattle.service.proofs.Administered.{administered, kept-of}
 use Rattle.service.proofs.administering.administer_one.Goals as goal
 
 pub returns-clause-served : goal.returns-clause-served
 returns-clause-served g c =
     let done = c.administer_kept-admin in
-    let held = g.C.Writer.Sink.held in
     let taken = g.C.Writer.Sink.taken in
-    let count : c.saturating_sub.result ≡ taken done.new.writer.inner - taken c.new-logged.result.inner =
-    c.saturating_sub.ensures ∙ ap₂ ◌-◌ (c.taken.ensures ∙ ap taken c.into_inner-writer.ensures) (c.taken-before.ensures ∙ ap taken (sym c.new-logged.ensures)) in
+    let count : c.saturating_sub.result ≡ taken done.new.client.writer.inner - taken c.new-writer.result.inner =
+    c.saturating_sub.ensures ∙ ap₂ ◌-◌ (c.taken.ensures ∙ ap taken c.into_inner-writer.ensures) (c.taken-before.ensures ∙ ap taken (sym c.new-writer.ensures)) in
     record {
       reader = c.in-Some.sides.reader;
       writer = c.in-Some.sides.writer;
       opened = c.in-Some.ensures;
       fault = c.fault_of-fault.result;
-      rest = done.new.reader;
+      rest = done.new.client.reader;
       got = c.into_inner-writer.result;
-      served = rw (c.has_kept.ensures, c.fault_of-fault.ensures, c.into_inner-writer.ensures, sym c.new-logged.ensures)
-          (administered (λ s. s.inner) held taken g.S.Sharing.opening g.C.Reader.Source.left g.C.Reader.Source.take_failed done.result.1 c.in-Some.sides.reader done.new.reader c.args.admin done.result.0
-          c.new-logged.result done.new.writer c.saturating_sub.result done.ensures.served done.ensures.stopped done.ensures.failed count);
+      served = rw (c.has_kept.ensures, c.fault_of-fault.ensures, c.into_inner-writer.ensures, sym c.new-writer.ensures)
+          (administered (λ s. s.inner) (sides_view g.C.Reader.Source g.C.Writer.Sink) g.S.Sharing.opening done.result.1
+          (record { reader = c.in-Some.sides.reader; writer = c.new-writer.result; asked = c.args.admin })
+          (record { reader = done.new.client.reader; writer = done.new.client.writer; asked = done.result.0 })
+          c.saturating_sub.result done.ensures.served done.ensures.stopped done.ensures.failed count);
       ended = c.close.ensures;
     }
 

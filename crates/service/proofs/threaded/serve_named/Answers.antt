@@ -1,8 +1,5 @@
-use Rattle.std.proofs.Common.{◌≡◌, ◌∙◌, ◌++◌, ℕ, List, [], append-nil, ap, subst, sym, refl}
-use Rattle.std.specs.Prelude.{IsSome}
-use Rattle.batches.specs.Batch.{accepted}
+use Rattle.std.proofs.Common.{◌∙◌, ◌++◌, ℕ, List, append-nil, ap, subst, sym, refl}
 use Rattle.mapshare.specs.Admin.{Batches, all_of}
-use Rattle.sharing.specs.Sharing.{after}
 use Rattle.service.proofs.threaded.serve_named.Goals as goal
 
 pub returns-in-Ok-clause-kept : goal.returns-in-Ok-clause-kept
