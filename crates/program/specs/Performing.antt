@@ -1,5 +1,5 @@
 -- The effects of the program for a command on a host (docs/SERVICE.md, "The program").
-use Rattle.std.specs.Prelude.{◌≡◌, ◌⊎◌, ◌||◌, ◌==◌, ◌++◌, ℕ, Bool, MatchBool, List, [], Option, None, Some, IsSome, option_map, Err}
+use Rattle.std.specs.Prelude.{◌≡◌, ◌⊎◌, ◌||◌, ◌==◌, ◌++◌, ℕ, Bool, MatchBool, MatchOption, List, [], Option, None, Some, IsSome, option_map, Err}
 use Rattle.std.specs.Io.KnownBytes.{Keeps}
 use Rattle.commandline.specs.declared.subcommand.Command.{Command}
 use Rattle.commandline.specs.declared.subcommand.Service.{Service}
@@ -91,57 +91,75 @@ pub record Written : Type 0 where
   pub errors : WriterState
   pub later_errors : WriterState
 
+-- what is requested of a service: messages on faults and warnings, the path of its journal, or none, and its options
+pub record Requested : Type 0 where
+  pub explains : Bool
+  pub journal : Option (List ℕ)
+  pub service : Service
+
+-- a map, and the fingerprint of its mapfile and of the files that it names
+pub record FingerprintedMap : Type 0 where
+  pub map : MapFields
+  pub fingerprint : List ℕ
+
 -- a map was served in the state after the batches of its journal, which kept all that followed, or, where it is compacted, fewer that lead to the same
 -- state. That a torn tail was cut off is reported, with `--explain` or `--log`; where the journal failed, that was reported
-pub record IsJournalServed {P L : Type 0} (host : HostView P L) (explains : Bool) (path fingerprint : List ℕ) (map : MapFields) (service : Service) (ending : EndingValue P L) (written : Written) : Type 0 where
+pub record IsJournalServed {P L : Type 0} (host : HostView P L) (requested : Requested) (path : List ℕ) (read : FingerprintedMap) (ending : EndingValue P L) (written : Written) : Type 0 where
   pub machine : State
   pub journal : Journal L
   pub cut : ℕ
-  pub is_opened : IsOpened host.journal path fingerprint (opened map) machine journal cut
-  pub serves : ServesJournal host (record { machine = machine; keeper = journal; service = service }) ending written.output written.later_output
+  pub is_opened : IsOpened host.journal path read.fingerprint (opened read.map) machine journal cut
+  pub serves : ServesJournal host (record { machine = machine; keeper = journal; service = requested.service }) ending written.output written.later_output
   pub between : WriterState
-  pub told : ReportsCut (explains || service.logs) path cut written.errors between
+  pub told : ReportsCut (requested.explains || requested.service.logs) path cut written.errors between
   pub reported : ReportsEnd path ending.outcome between written.later_errors
 
 -- nothing was served, since the journal wasn't opened, which was reported
-pub record IsWithoutJournal {P L : Type 0} (host : HostView P L) (path fingerprint : List ℕ) (map : MapFields) (ending : EndingValue P L) (written : Written) : Type 0 where
+pub record IsWithoutJournal {P L : Type 0} (host : HostView P L) (path : List ℕ) (read : FingerprintedMap) (ending : EndingValue P L) (written : Written) : Type 0 where
   pub why : JournalFault
-  pub is_unopened : IsUnopened host.journal path fingerprint (opened map) why
+  pub is_unopened : IsUnopened host.journal path read.fingerprint (opened read.map) why
   pub ends : ending ≡ unserved (Err (failure_of why))
   pub output : written.later_output ≡ written.output
   pub reported : IsReported written.errors written.later_errors (journal_fault path why)
 
 -- a map was served: as it begins, or, with the journal of a path, after its batches
-abbrev pub ServesMap : {P L : Type 0} → HostView P L → Bool → Option (List ℕ) → List ℕ → MapFields → Service → EndingValue P L → Written → Type 0
-ServesMap host explains None fingerprint map service ending written =
-    ServesMachine host by_journal (record { machine = opened map; keeper = None; service = service }) ending written.output written.later_output × (written.later_errors ≡ written.errors)
-ServesMap host explains (Some path) fingerprint map service ending written =
-    IsWithoutJournal host path fingerprint map ending written ⊎ IsJournalServed host explains path fingerprint map service ending written
+abbrev pub ServesMap : {P L : Type 0} → HostView P L → Requested → FingerprintedMap → EndingValue P L → Written → Type 0
+ServesMap host requested read ending written = MatchOption requested.journal
+    (ServesMachine host by_journal (record { machine = opened read.map; keeper = None; service = requested.service }) ending written.output written.later_output
+    × (written.later_errors ≡ written.errors))
+    (λ path. IsWithoutJournal host path read ending written ⊎ IsJournalServed host requested path read ending written)
+
+-- a mapfile that is read: its name, the files that it may name, and the rest of its own before and after
+pub record MapfileReading : Type 1 where
+  pub name : List ℕ
+  pub gives : Giving
+  pub before : Option (List ℕ)
+  pub after : Option (List ℕ)
 
 -- the warnings on the map of a mapfile were reported, where `explains` says so, and the map was served
-pub record IsMapServed {P L : Type 0} (host : HostView P L) (gives : Giving) (explains : Bool) (journal : Option (List ℕ)) (service : Service) (ending : EndingValue P L) (name : List ℕ) (before after : Option (List ℕ)) (old new : ConsoleState) : Type 0 where
+pub record IsMapServed {P L : Type 0} (host : HostView P L) (requested : Requested) (reading : MapfileReading) (ending : EndingValue P L) (old new : ConsoleState) : Type 0 where
   pub map : MapFields
   pub mapfile : List ℕ
   pub files : List FileBytes
-  pub read : HasReadMapfile gives before after mapfile files map
+  pub read : HasReadMapfile reading.gives reading.before reading.after mapfile files map
   pub errors : WriterState
-  pub warnings : ReportsWarnings explains name map old.errors errors
-  pub serves_map : ServesMap host explains journal (map_fingerprint mapfile files) map service ending
+  pub warnings : ReportsWarnings requested.explains reading.name map old.errors errors
+  pub serves_map : ServesMap host requested (record { map = map; fingerprint = map_fingerprint mapfile files }) ending
       (record { output = old.output; later_output = new.output; errors = errors; later_errors = new.errors })
 
 -- no map was served, since the mapfile gave none
-pub record IsWithoutMap {P L : Type 0} (gives : Giving) (explains : Bool) (ending : EndingValue P L) (name : List ℕ) (before after : Option (List ℕ)) (old new : ConsoleState) : Type 0 where
+pub record IsWithoutMap {P L : Type 0} (explains : Bool) (reading : MapfileReading) (ending : EndingValue P L) (old new : ConsoleState) : Type 0 where
   pub failure : Failure
   pub ends : ending.outcome ≡ Err failure
   pub output : Keeps old.output.held new.output.held
   pub cause : UnreadCause
-  pub without : GivesNoMap gives explains failure (record { name = name; cause = cause }) before after old.errors new.errors
+  pub without : GivesNoMap (record { gives = reading.gives; explains = explains }) failure (record { name = reading.name; cause = cause })
+      (record { before = reading.before; after = reading.after }) old.errors new.errors
   pub nothing : ServesNothing ending
 
--- the result of serving a mapfile. `before` and `after` are the rest of the mapfile
-abbrev pub ServesTo : {P L : Type 0} → HostView P L → Giving → Bool → Option (List ℕ) → Service → EndingValue P L → List ℕ → Option (List ℕ) → Option (List ℕ) → ConsoleState → ConsoleState → Type 0
-ServesTo host gives explains journal service ending name before after old new =
-    IsWithoutMap gives explains ending name before after old new ⊎ IsMapServed host gives explains journal service ending name before after old new
+-- the result of serving a mapfile
+abbrev pub ServesTo : {P L : Type 0} → HostView P L → Requested → MapfileReading → EndingValue P L → ConsoleState → ConsoleState → Type 0
+ServesTo host requested reading ending old new = IsWithoutMap requested.explains reading ending old new ⊎ IsMapServed host requested reading ending old new
 
 -- the rest of a file after a part of it was read
 abbrev pub Left : Type 0
@@ -152,11 +170,17 @@ abbrev pub Performs : {P L : Type 0} → HostView P L → Command → EndingValu
 Performs host Session ending old new = PlaysTo (gives_in host.file []) ending.outcome old new × ServesNothing ending
 Performs host (Check name explains) ending old new =
     ((parent : List ℕ) × IsParent name.now parent × (after : Left) × (cause : UnreadCause)
-    × ChecksTo (gives_in host.file parent) explains ending.outcome (record { name = name.now; cause = cause }) (host.file name.now) after old new) × ServesNothing ending
+    × ChecksTo (record { gives = gives_in host.file parent; explains = explains }) ending.outcome (record { name = name.now; cause = cause })
+    (record { before = host.file name.now; after = after }) old new) × ServesNothing ending
 Performs host (Run name script explains) ending old new =
     ((parent : List ℕ) × IsParent name.now parent × (after : Left) × (script_after : Left) × (cause : UnreadCause) × (script_cause : UnreadCause)
-    × RunsTo (gives_in host.file parent) explains ending.outcome (record { name = name.now; cause = cause }) (record { name = script.now; cause = script_cause })
-    (record { mapfile_before = host.file name.now; mapfile_after = after; script_before = host.file script.now; script_after = script_after }) old new) × ServesNothing ending
+    × RunsTo (record { gives = gives_in host.file parent; explains = explains }) ending.outcome
+    (record { mapfile = record { name = name.now; cause = cause }; script = record { name = script.now; cause = script_cause } })
+    (record {
+      mapfile = record { before = host.file name.now; after = after };
+      script = record { before = host.file script.now; after = script_after };
+    }) old new) × ServesNothing ending
 Performs host (Serve name explains service journal) ending old new =
     (parent : List ℕ) × IsParent name.now parent × (after : Left)
-    × ServesTo host (gives_in host.file parent) explains (option_map (λ text. text.now) journal) service ending name.now (host.file name.now) after old new
+    × ServesTo host (record { explains = explains; journal = option_map (λ text. text.now) journal; service = service })
+    (record { name = name.now; gives = gives_in host.file parent; before = host.file name.now; after = after }) ending old new

@@ -73,8 +73,9 @@ impl<R: Runtime, H: Host> Program<'_, R, H> {
         console: &mut Console<I, O, E>,
     ) -> Result<(), Failure>
         ensures checks { (parent : List ℕ) × IsParent file.now parent × (after : Left) × (cause : UnreadCause)
-            × ChecksTo (gives_in (H.Files.file self.now.host.now) parent) explains result (record { name = file.now; cause = cause })
-            (H.Files.file self.now.host.now file.now) after
+            × ChecksTo (record { gives = gives_in (H.Files.file self.now.host.now) parent; explains = explains }) result
+            (record { name = file.now; cause = cause })
+            (record { before = H.Files.file self.now.host.now file.now; after = after })
             (⟦<Console<I, O, E> as Terminal>⟧.streams console.old) (⟦<Console<I, O, E> as Terminal>⟧.streams console.new) }
         ensures input { console.new.input ≡ console.old.input }
         ensures leaves { Leaves result (⟦<Console<I, O, E> as Terminal>⟧.streams console.old) (⟦<Console<I, O, E> as Terminal>⟧.streams console.new) }
@@ -97,13 +98,14 @@ impl<R: Runtime, H: Host> Program<'_, R, H> {
     ) -> Result<(), Failure>
         ensures runs { (parent : List ℕ) × IsParent scripted.entry.file.now parent × (after : Left) × (script_after : Left) × (cause : UnreadCause)
             × (script_cause : UnreadCause)
-            × RunsTo (gives_in (H.Files.file self.now.host.now) parent) explains result (record { name = scripted.entry.file.now; cause = cause })
-            (record { name = scripted.entry.script.now; cause = script_cause })
+            × RunsTo (record { gives = gives_in (H.Files.file self.now.host.now) parent; explains = explains }) result
             (record {
-              mapfile_before = H.Files.file self.now.host.now scripted.entry.file.now;
-              mapfile_after = after;
-              script_before = H.Files.file self.now.host.now scripted.entry.script.now;
-              script_after = script_after;
+              mapfile = record { name = scripted.entry.file.now; cause = cause };
+              script = record { name = scripted.entry.script.now; cause = script_cause };
+            })
+            (record {
+              mapfile = record { before = H.Files.file self.now.host.now scripted.entry.file.now; after = after };
+              script = record { before = H.Files.file self.now.host.now scripted.entry.script.now; after = script_after };
             })
             (⟦<Console<I, O, E> as Terminal>⟧.streams console.old) (⟦<Console<I, O, E> as Terminal>⟧.streams console.new) }
         ensures input { console.new.input ≡ console.old.input }
@@ -128,8 +130,17 @@ impl<R: Runtime, H: Host> Program<'_, R, H> {
     ) -> Ending<H::Port, H::Log>
         ensures serves { (parent : List ℕ) × IsParent file.now parent × (after : Left)
             × ServesTo (host_view ⟦<H as Files>⟧ H.listens H.journal ⟦<H::Port as Port<H::Connection>>⟧ ⟦<H::Log as Log>⟧ self.now.host.now)
-            (gives_in (H.Files.file self.now.host.now) parent) requested.entry.explains
-            (option_map (λ path. path.now) requested.entry.journal) requested.entry.service result file.now (H.Files.file self.now.host.now file.now) after
+            (record {
+              explains = requested.entry.explains;
+              journal = option_map (λ path. path.now) requested.entry.journal;
+              service = requested.entry.service;
+            })
+            (record {
+              name = file.now;
+              gives = gives_in (H.Files.file self.now.host.now) parent;
+              before = H.Files.file self.now.host.now file.now;
+              after = after;
+            }) result
             (⟦<Console<I, O, E> as Terminal>⟧.streams console.old) (⟦<Console<I, O, E> as Terminal>⟧.streams console.new) }
         ensures input { console.new.input ≡ console.old.input }
         ensures leaves { Leaves result.outcome (⟦<Console<I, O, E> as Terminal>⟧.streams console.old) (⟦<Console<I, O, E> as Terminal>⟧.streams console.new) }
@@ -154,7 +165,12 @@ impl<R: Runtime, H: Host> Program<'_, R, H> {
         console: &mut Console<I, O, E>,
     ) -> Ending<H::Port, H::Log>
         ensures serves { ServesMap (host_view ⟦<H as Files>⟧ H.listens H.journal ⟦<H::Port as Port<H::Connection>>⟧ ⟦<H::Log as Log>⟧ self.now.host.now)
-            requested.entry.explains (option_map (λ path. path.now) requested.entry.journal) (map_fingerprint read.source.items read.files) read.map requested.entry.service result
+            (record {
+              explains = requested.entry.explains;
+              journal = option_map (λ path. path.now) requested.entry.journal;
+              service = requested.entry.service;
+            })
+            (record { map = read.map; fingerprint = map_fingerprint read.source.items read.files }) result
             (record {
               output = ⟦<O as Writes>⟧.state console.old.output;
               later_output = ⟦<O as Writes>⟧.state console.new.output;

@@ -273,8 +273,13 @@ impl<R: Runtime, H: Host> Program<'_, R, H> {
         console: &mut Console<I, O, E>,
     ) -> Ending<H::Port, H::Log>
         ensures serves { ServesMap (host_view ⟦<H as Files>⟧ H.listens H.journal ⟦<H::Port as Port<H::Connection>>⟧
-            ⟦<H::Log as Log>⟧ self.now.host.now) journaled.entry.explains (Some journaled.entry.path.now)
-            (map_fingerprint read.source.items read.files) read.map journaled.entry.service result
+            ⟦<H::Log as Log>⟧ self.now.host.now)
+            (record {
+              explains = journaled.entry.explains;
+              journal = Some journaled.entry.path.now;
+              service = journaled.entry.service;
+            })
+            (record { map = read.map; fingerprint = map_fingerprint read.source.items read.files }) result
             (record {
               output = ⟦<O as Writes>⟧.state console.old.output;
               later_output = ⟦<O as Writes>⟧.state console.new.output;

@@ -8,7 +8,7 @@ use Rattle.console.specs.declared.failure.Failure.TheVariants.{MapfileFault, Fil
 use Rattle.mapdefs.specs.declared.map.MapFields.{MapFields}
 use Rattle.batches.specs.Batch.{State}
 use Rattle.subcommands.specs.Folder.{Giving, ComesTo}
-use Rattle.subcommands.specs.Mapfiles.{ChecksTo, HasReadFile, HasReadMap, IsUnread, IsUnreported, IsWarned, Readings, ReportsScript, ReportsWarnings, RunsTo, WritesSummary, is_file_failed}
+use Rattle.subcommands.specs.Mapfiles.{ChecksTo, HasReadFile, HasReadMap, IsUnread, IsUnreported, IsWarned, JobView, Readings, ReportsScript, ReportsWarnings, Rest, RunFiles, RunsTo, WritesSummary, is_file_failed}
 use Rattle.subcommands.specs.Reports.{ReadFile}
 use Rattle.subcommands.specs.Session.{HasRead, Ends, EndsOn, PlaysTo, opened}
 
@@ -36,62 +36,65 @@ pub unreported : (errors : WriterState) → IsUnreported errors errors
 unreported errors = record { held = Keeps-refl errors.held; failed = refl; flushed = refl }
 
 -- the result of a script that was read after its mapfile, by the outcome
-pub ran : (gives : Giving) (explains : Bool) (outcome : Outcome) (mapfile script : ReadFile) (files : Readings) (old new : ConsoleState) (map : MapFields) (bytes : List ℕ) →
-    HasReadMap gives files.mapfile_before files.mapfile_after map → HasReadFile files.script_before files.script_after bytes → EndsOn map outcome bytes old.output.held new.output.held →
-    ReportsWarnings explains mapfile.name map old.errors new.errors → RunsTo gives explains outcome mapfile script files old new
-ran gives explains (Ok done) mapfile script files old new map bytes read read_script ends warnings =
+pub ran : (job : JobView) (outcome : Outcome) (files : RunFiles) (readings : Readings) (old new : ConsoleState) (map : MapFields) (bytes : List ℕ) →
+    HasReadMap job.gives readings.mapfile.before readings.mapfile.after map → HasReadFile readings.script.before readings.script.after bytes →
+    EndsOn map outcome bytes old.output.held new.output.held →
+    ReportsWarnings job.explains files.mapfile.name map old.errors new.errors → RunsTo job outcome files readings old new
+ran job (Ok done) files readings old new map bytes read read_script ends warnings =
     record { map = map; read = read; script = bytes; read_script = read_script; state = ends.0; ends = ends.1; warnings = warnings }
-ran gives explains (Err OutputFailed) mapfile script files old new map bytes read read_script ends warnings =
+ran job (Err OutputFailed) files readings old new map bytes read read_script ends warnings =
     record { map = map; read = read; script = bytes; read_script = read_script; state = ends.0; ends = ends.1; warnings = warnings }
-ran gives explains (Err SocketFailed) mapfile script files old new map bytes read read_script ends warnings = absurd ends.1
-ran gives explains (Err WatchFailed) mapfile script files old new map bytes read read_script ends warnings = absurd ends.1
-ran gives explains (Err JournalFault) mapfile script files old new map bytes read read_script ends warnings = absurd ends.1
-ran gives explains (Err JournalFailed) mapfile script files old new map bytes read read_script ends warnings = absurd ends.1
-ran gives explains (Err (ListenFailed port cause)) mapfile script files old new map bytes read read_script ends warnings = absurd ends.1
-ran gives explains (Err MapfileFault) mapfile script files old new map bytes read read_script ends warnings = absurd ends.1
-ran gives explains (Err FileFailed) mapfile script files old new map bytes read read_script ends warnings = absurd ends.1
-ran gives explains (Err ArgumentsRefused) mapfile script files old new map bytes read read_script ends warnings = absurd ends.1
-ran gives explains (Err InputFailed) mapfile script files old new map bytes read read_script ends warnings = absurd ends.1
-ran gives explains (Err NoMemory) mapfile script files old new map bytes read read_script ends warnings =
+ran job (Err SocketFailed) files readings old new map bytes read read_script ends warnings = absurd ends.1
+ran job (Err WatchFailed) files readings old new map bytes read read_script ends warnings = absurd ends.1
+ran job (Err JournalFault) files readings old new map bytes read read_script ends warnings = absurd ends.1
+ran job (Err JournalFailed) files readings old new map bytes read read_script ends warnings = absurd ends.1
+ran job (Err (ListenFailed port cause)) files readings old new map bytes read read_script ends warnings = absurd ends.1
+ran job (Err MapfileFault) files readings old new map bytes read read_script ends warnings = absurd ends.1
+ran job (Err FileFailed) files readings old new map bytes read read_script ends warnings = absurd ends.1
+ran job (Err ArgumentsRefused) files readings old new map bytes read read_script ends warnings = absurd ends.1
+ran job (Err InputFailed) files readings old new map bytes read read_script ends warnings = absurd ends.1
+ran job (Err NoMemory) files readings old new map bytes read read_script ends warnings =
     (ends, inr (record { map = map; read = read; warned = record { errors = new.errors; warnings = warnings }; unread = Keeps-refl new.errors.held }))
 
 -- the result of a script that was not read after its mapfile
-pub unscripted : (gives : Giving) (explains : Bool) (failure : Failure) (mapfile script : ReadFile) (files : Readings) (old new : ConsoleState) (map : MapFields) →
-    HasReadMap gives files.mapfile_before files.mapfile_after map → (warned : IsWarned explains mapfile.name map old.errors) → IsUnread explains failure script warned.errors new.errors →
-    Keeps old.output.held new.output.held → RunsTo gives explains (Err failure) mapfile script files old new
-unscripted gives explains FileFailed mapfile script files old new map read warned unread kept =
+pub unscripted : (job : JobView) (failure : Failure) (files : RunFiles) (readings : Readings) (old new : ConsoleState) (map : MapFields) →
+    HasReadMap job.gives readings.mapfile.before readings.mapfile.after map → (warned : IsWarned job.explains files.mapfile.name map old.errors) →
+    IsUnread job.explains failure files.script warned.errors new.errors →
+    Keeps old.output.held new.output.held → RunsTo job (Err failure) files readings old new
+unscripted job FileFailed files readings old new map read warned unread kept =
     (kept, inr (record { map = map; read = read; warned = warned; unread = unread }))
-unscripted gives explains NoMemory mapfile script files old new map read warned unread kept =
+unscripted job NoMemory files readings old new map read warned unread kept =
     (kept, inr (record { map = map; read = read; warned = warned; unread = unread }))
-unscripted gives explains SocketFailed mapfile script files old new map read warned unread kept = absurd unread
-unscripted gives explains WatchFailed mapfile script files old new map read warned unread kept = absurd unread
-unscripted gives explains JournalFault mapfile script files old new map read warned unread kept = absurd unread
-unscripted gives explains JournalFailed mapfile script files old new map read warned unread kept = absurd unread
-unscripted gives explains (ListenFailed port cause) mapfile script files old new map read warned unread kept = absurd unread
-unscripted gives explains MapfileFault mapfile script files old new map read warned unread kept = absurd unread
-unscripted gives explains ArgumentsRefused mapfile script files old new map read warned unread kept = absurd unread
-unscripted gives explains InputFailed mapfile script files old new map read warned unread kept = absurd unread
-unscripted gives explains OutputFailed mapfile script files old new map read warned unread kept = absurd unread
+unscripted job SocketFailed files readings old new map read warned unread kept = absurd unread
+unscripted job WatchFailed files readings old new map read warned unread kept = absurd unread
+unscripted job JournalFault files readings old new map read warned unread kept = absurd unread
+unscripted job JournalFailed files readings old new map read warned unread kept = absurd unread
+unscripted job (ListenFailed port cause) files readings old new map read warned unread kept = absurd unread
+unscripted job MapfileFault files readings old new map read warned unread kept = absurd unread
+unscripted job ArgumentsRefused files readings old new map read warned unread kept = absurd unread
+unscripted job InputFailed files readings old new map read warned unread kept = absurd unread
+unscripted job OutputFailed files readings old new map read warned unread kept = absurd unread
 
 -- nothing is reported where no warnings are requested
 pub unwarned : (name : List ℕ) (map : MapFields) (old new : WriterState) → IsUnreported old new → ReportsWarnings false name map old new
 unwarned name map old new kept = record { reported = inr kept; unasked = λ e. kept }
 
 -- the result of a map whose line was not written
-pub unsummed : (gives : Giving) (explains : Bool) (failure : Failure) (file : ReadFile) (before after : Option (List ℕ)) (old new : ConsoleState) (map : MapFields) →
-    HasReadMap gives before after map → WritesSummary (Err failure) map old.output.held new.output.held → IsUnreported old.errors new.errors → ChecksTo gives explains (Err failure) file before after old new
-unsummed gives explains OutputFailed file before after old new map read sums kept =
+pub unsummed : (job : JobView) (failure : Failure) (file : ReadFile) (rest : Rest) (old new : ConsoleState) (map : MapFields) →
+    HasReadMap job.gives rest.before rest.after map → WritesSummary (Err failure) map old.output.held new.output.held →
+    IsUnreported old.errors new.errors → ChecksTo job (Err failure) file rest old new
+unsummed job OutputFailed file rest old new map read sums kept =
     record { map = map; read = read; sums = sums; warnings = unwarned file.name map old.errors new.errors kept }
-unsummed gives explains MapfileFault file before after old new map read sums kept = absurd sums
-unsummed gives explains FileFailed file before after old new map read sums kept = absurd sums
-unsummed gives explains ArgumentsRefused file before after old new map read sums kept = absurd sums
-unsummed gives explains InputFailed file before after old new map read sums kept = absurd sums
-unsummed gives explains SocketFailed file before after old new map read sums kept = absurd sums
-unsummed gives explains WatchFailed file before after old new map read sums kept = absurd sums
-unsummed gives explains JournalFault file before after old new map read sums kept = absurd sums
-unsummed gives explains JournalFailed file before after old new map read sums kept = absurd sums
-unsummed gives explains (ListenFailed port cause) file before after old new map read sums kept = absurd sums
-unsummed gives explains NoMemory file before after old new map read sums kept = absurd sums
+unsummed job MapfileFault file rest old new map read sums kept = absurd sums
+unsummed job FileFailed file rest old new map read sums kept = absurd sums
+unsummed job ArgumentsRefused file rest old new map read sums kept = absurd sums
+unsummed job InputFailed file rest old new map read sums kept = absurd sums
+unsummed job SocketFailed file rest old new map read sums kept = absurd sums
+unsummed job WatchFailed file rest old new map read sums kept = absurd sums
+unsummed job JournalFault file rest old new map read sums kept = absurd sums
+unsummed job JournalFailed file rest old new map read sums kept = absurd sums
+unsummed job (ListenFailed port cause) file rest old new map read sums kept = absurd sums
+unsummed job NoMemory file rest old new map read sums kept = absurd sums
 
 -- a script that was not read after its mapfile was reported by its name
 pub script-reported : (other : Type 0) (explains : Bool) (failure : Failure) (name : List ℕ) (script : ReadFile) (old new : WriterState) (mapfile_before mapfile_after script_before script_after : Bool) (map : MapFields) →

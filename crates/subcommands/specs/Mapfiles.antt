@@ -17,6 +17,16 @@ use Rattle.subcommands.specs.Reports.{ReadFile, file_fault, mapfile_fault}
 use Rattle.subcommands.specs.Session.{Ends, opened}
 use Rattle.subcommands.specs.Summary.{summary_line, HasPartlySummed}
 
+-- a job: what the folder of its mapfile gives, and whether there is a message on a fault or an unread file, and warnings on a map
+pub record JobView : Type 1 where
+  pub gives : Giving
+  pub explains : Bool
+
+-- the rest of a file, before and after
+pub record Rest : Type 0 where
+  pub before : Option (List ℕ)
+  pub after : Option (List ℕ)
+
 -- all of a file was read, up to its end
 pub record HasReadFile (before after : Option (List ℕ)) (bytes : List ℕ) : Type 0 where
   pub consumed : Consumes before after bytes
@@ -62,18 +72,18 @@ explained_fault name fault (Some message) =
     mapfile_fault fault.line (number_of fault.kind) ++ (name ++ (codes ":" ++ (decimal fault.line ++ (codes ": " ++ (message ++ codes "\n")))))
 
 -- a mapfile was read, and its fault was reported with the message on it, if there is one
-pub record HasExplainedFault (gives : Giving) (explains : Bool) (name : List ℕ) (before after : Option (List ℕ)) (old new : WriterState) : Type 0 where
+pub record HasExplainedFault (job : JobView) (name : List ℕ) (rest : Rest) (old new : WriterState) : Type 0 where
   pub mapfile : List ℕ
-  pub read : HasReadFile before after mapfile
+  pub read : HasReadFile rest.before rest.after mapfile
   pub fault : Fault
   pub message : Option (List ℕ)
-  pub explained : IsExplained gives explains mapfile fault message
+  pub explained : IsExplained job.gives job.explains mapfile fault message
   pub reported : IsReported old new (explained_fault name fault message)
 
 -- a mapfile gave no map: it has a fault, or was not read
-abbrev pub GivesNoMap : Giving → Bool → Failure → ReadFile → Option (List ℕ) → Option (List ℕ) → WriterState → WriterState → Type 0
-GivesNoMap gives explains MapfileFault file before after old new = HasExplainedFault gives explains file.name before after old new
-GivesNoMap gives explains failure file before after old new = IsUnread explains failure file old new
+abbrev pub GivesNoMap : JobView → Failure → ReadFile → Rest → WriterState → WriterState → Type 0
+GivesNoMap job MapfileFault file rest old new = HasExplainedFault job file.name rest old new
+GivesNoMap job failure file rest old new = IsUnread job.explains failure file old new
 
 -- nothing was reported
 pub record IsUnreported (old new : WriterState) : Type 0 where
@@ -95,36 +105,38 @@ WritesSummary (Err OutputFailed) map before after =
 WritesSummary (Err _) map before after = ⊥
 
 -- a mapfile describes a map, whose line was written with this outcome, and then the warnings on it were reported
-pub record IsChecked (gives : Giving) (explains : Bool) (outcome : Outcome) (name : List ℕ) (before after : Option (List ℕ)) (old new : ConsoleState) : Type 0 where
+pub record IsChecked (job : JobView) (outcome : Outcome) (name : List ℕ) (rest : Rest) (old new : ConsoleState) : Type 0 where
   pub map : MapFields
-  pub read : HasReadMap gives before after map
+  pub read : HasReadMap job.gives rest.before rest.after map
   pub sums : WritesSummary outcome map old.output.held new.output.held
-  pub warnings : ReportsWarnings explains name map old.errors new.errors
+  pub warnings : ReportsWarnings job.explains name map old.errors new.errors
 
--- the result of checking a mapfile for the streams, by its outcome. `before` and `after` are the rest of the mapfile; `explains` says whether a fault
--- is reported with a message, and the warnings on a map whose whole line was written
-abbrev pub ChecksTo : Giving → Bool → Outcome → ReadFile → Option (List ℕ) → Option (List ℕ) → ConsoleState → ConsoleState → Type 0
-ChecksTo gives explains (Ok done) file before after old new = IsChecked gives explains (Ok done) file.name before after old new
-ChecksTo gives explains (Err OutputFailed) file before after old new = IsChecked gives false (Err OutputFailed) file.name before after old new
-ChecksTo gives explains (Err failure) file before after old new =
-    Keeps old.output.held new.output.held × GivesNoMap gives explains failure file before after old.errors new.errors
+-- the result of checking a mapfile for the streams, by its outcome. Warnings are reported where the whole line of the map was written
+abbrev pub ChecksTo : JobView → Outcome → ReadFile → Rest → ConsoleState → ConsoleState → Type 0
+ChecksTo job (Ok done) file rest old new = IsChecked job (Ok done) file.name rest old new
+ChecksTo job (Err OutputFailed) file rest old new = IsChecked (record job { explains = false }) (Err OutputFailed) file.name rest old new
+ChecksTo job (Err failure) file rest old new =
+    Keeps old.output.held new.output.held × GivesNoMap job failure file rest old.errors new.errors
 
--- the bytes that are read for a script: those of the mapfile before and after, and those of the script
+-- the mapfile and the script of a run, as they are reported
+pub record RunFiles : Type 0 where
+  pub mapfile : ReadFile
+  pub script : ReadFile
+
+-- the bytes that a run reads: those of its mapfile, and those of its script
 pub record Readings : Type 0 where
-  pub mapfile_before : Option (List ℕ)
-  pub mapfile_after : Option (List ℕ)
-  pub script_before : Option (List ℕ)
-  pub script_after : Option (List ℕ)
+  pub mapfile : Rest
+  pub script : Rest
 
 -- a mapfile describes a map, the warnings on it were reported, and a script was played on it with this outcome
-pub record IsRun (gives : Giving) (explains : Bool) (outcome : Outcome) (name : List ℕ) (files : Readings) (old new : ConsoleState) : Type 0 where
+pub record IsRun (job : JobView) (outcome : Outcome) (name : List ℕ) (readings : Readings) (old new : ConsoleState) : Type 0 where
   pub map : MapFields
-  pub read : HasReadMap gives files.mapfile_before files.mapfile_after map
+  pub read : HasReadMap job.gives readings.mapfile.before readings.mapfile.after map
   pub script : List ℕ
-  pub read_script : HasReadFile files.script_before files.script_after script
+  pub read_script : HasReadFile readings.script.before readings.script.after script
   pub state : State
   pub ends : Ends outcome (opened map) script state old.output.held new.output.held
-  pub warnings : ReportsWarnings explains name map old.errors new.errors
+  pub warnings : ReportsWarnings job.explains name map old.errors new.errors
 
 -- the errors got the warnings on a map, and are in that state then
 pub record IsWarned (explains : Bool) (name : List ℕ) (map : MapFields) (old : WriterState) : Type 0 where
@@ -132,20 +144,20 @@ pub record IsWarned (explains : Bool) (name : List ℕ) (map : MapFields) (old :
   pub warnings : ReportsWarnings explains name map old errors
 
 -- a mapfile describes a map, and the warnings on it were reported, but the script was not played: it was not read, or memory was refused
-pub record IsWithoutScript (gives : Giving) (explains : Bool) (failure : Failure) (name : List ℕ) (script : ReadFile) (files : Readings) (old new : WriterState) : Type 0 where
+pub record IsWithoutScript (job : JobView) (failure : Failure) (files : RunFiles) (readings : Readings) (old new : WriterState) : Type 0 where
   pub map : MapFields
-  pub read : HasReadMap gives files.mapfile_before files.mapfile_after map
-  pub warned : IsWarned explains name map old
-  pub unread : IsUnread explains failure script warned.errors new
+  pub read : HasReadMap job.gives readings.mapfile.before readings.mapfile.after map
+  pub warned : IsWarned job.explains files.mapfile.name map old
+  pub unread : IsUnread job.explains failure files.script warned.errors new
 
--- the result of running a script for the streams, by its outcome, with the mapfile and the script as they are reported
-abbrev pub RunsTo : Giving → Bool → Outcome → ReadFile → ReadFile → Readings → ConsoleState → ConsoleState → Type 0
-RunsTo gives explains (Ok done) mapfile script files old new = IsRun gives explains (Ok done) mapfile.name files old new
-RunsTo gives explains (Err OutputFailed) mapfile script files old new = IsRun gives explains (Err OutputFailed) mapfile.name files old new
-RunsTo gives explains (Err failure) mapfile script files old new =
+-- the result of running a script for the streams, by its outcome
+abbrev pub RunsTo : JobView → Outcome → RunFiles → Readings → ConsoleState → ConsoleState → Type 0
+RunsTo job (Ok done) files readings old new = IsRun job (Ok done) files.mapfile.name readings old new
+RunsTo job (Err OutputFailed) files readings old new = IsRun job (Err OutputFailed) files.mapfile.name readings old new
+RunsTo job (Err failure) files readings old new =
     Keeps old.output.held new.output.held
-    × (GivesNoMap gives explains failure mapfile files.mapfile_before files.mapfile_after old.errors new.errors
-    ⊎ IsWithoutScript gives explains failure mapfile.name script files old.errors new.errors)
+    × (GivesNoMap job failure files.mapfile readings.mapfile old.errors new.errors
+    ⊎ IsWithoutScript job failure files readings old.errors new.errors)
 
 -- the errors got the warnings on a map, and then a script that was not read
 pub record ReportsScript (explains : Bool) (name : List ℕ) (script : ReadFile) (old new : WriterState) : Type 0 where
@@ -153,19 +165,27 @@ pub record ReportsScript (explains : Bool) (name : List ℕ) (script : ReadFile)
   pub warned : IsWarned explains name map old
   pub reported : IsReported warned.errors new (file_fault explains script)
 
+-- the readers of a mapfile and of a script, before and after
+pub record Readers : Type 0 where
+  pub mapfile_before : InputState
+  pub mapfile_after : InputState
+  pub script_before : InputState
+  pub script_after : InputState
+
 -- a file that was not read was reported. If it is the mapfile, its reader has failed, and that of the script stayed as it was (`untouched`). If it is
 -- the script, its reader has failed, and that of the mapfile has not
-abbrev pub ReportsUnread : Bool → ReadFile → ReadFile → WriterState → WriterState → InputState → InputState → InputState → Type 0 → Type 0
-ReportsUnread explains mapfile script old new mapfile_before mapfile_after script_after untouched =
-    (IsReported old new (file_fault explains mapfile) × (mapfile_after.failed ≡ true) × untouched)
-    ⊎ (ReportsScript explains mapfile.name script old new × (script_after.failed ≡ true) × (mapfile_after.failed ≡ mapfile_before.failed))
+abbrev pub ReportsUnread : Bool → RunFiles → WriterState → WriterState → Readers → Type 0 → Type 0
+ReportsUnread explains files old new readers untouched =
+    (IsReported old new (file_fault explains files.mapfile) × (readers.mapfile_after.failed ≡ true) × untouched)
+    ⊎ (ReportsScript explains files.mapfile.name files.script old new × (readers.script_after.failed ≡ true)
+    × (readers.mapfile_after.failed ≡ readers.mapfile_before.failed))
 
 -- neither the reader of the mapfile nor that of the script has failed since
-pub record NoneFailed (mapfile_before mapfile_after script_before script_after : InputState) : Type 0 where
-  pub mapfile : mapfile_after.failed ≡ mapfile_before.failed
-  pub script : script_after.failed ≡ script_before.failed
+pub record NoneFailed (readers : Readers) : Type 0 where
+  pub mapfile : readers.mapfile_after.failed ≡ readers.mapfile_before.failed
+  pub script : readers.script_after.failed ≡ readers.script_before.failed
 
 -- the state of the two readers after an outcome: none has failed since, unless a file was not read
-abbrev pub LeavesFiles : Outcome → InputState → InputState → InputState → InputState → Type 0
-LeavesFiles (Ok done) a b c d = NoneFailed a b c d
-LeavesFiles (Err failure) a b c d = is_file_failed failure ≡ false → NoneFailed a b c d
+abbrev pub LeavesFiles : Outcome → Readers → Type 0
+LeavesFiles (Ok done) readers = NoneFailed readers
+LeavesFiles (Err failure) readers = is_file_failed failure ≡ false → NoneFailed readers

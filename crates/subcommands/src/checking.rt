@@ -33,13 +33,15 @@ pub fn check<F: Folder, I: Source + HasCause, J: Source, O: Sink, E: Sink>(
     job: &mut Job<'_, F, I>,
     console: &mut Console<J, O, E>,
 ) -> Result<(), Failure>
-    ensures checks { ChecksTo (F.gives job.old.folder.now) job.old.explains result
+    ensures checks { ChecksTo (record { gives = F.gives job.old.folder.now; explains = job.old.explains }) result
         (record { name = job.old.mapfile.name.now; cause = I.cause job.new.mapfile.reader })
-        (I.left job.old.mapfile.reader) (I.left job.new.mapfile.reader)
+        (record { before = I.left job.old.mapfile.reader; after = I.left job.new.mapfile.reader })
         (⟦<Console<J, O, E> as Terminal>⟧.streams console.old) (⟦<Console<J, O, E> as Terminal>⟧.streams console.new) }
     ensures input { console.new.input ≡ console.old.input }
-    ensures file { LeavesFile result (⟦<I as Reads>⟧.state job.old.mapfile.reader) (⟦<I as Reads>⟧.state job.new.mapfile.reader) }
-    ensures leaves { Leaves result (⟦<Console<J, O, E> as Terminal>⟧.streams console.old) (⟦<Console<J, O, E> as Terminal>⟧.streams console.new) }
+    ensures file { LeavesFile result
+        (⟦<I as Reads>⟧.state job.old.mapfile.reader) (⟦<I as Reads>⟧.state job.new.mapfile.reader) }
+    ensures leaves { Leaves result
+        (⟦<Console<J, O, E> as Terminal>⟧.streams console.old) (⟦<Console<J, O, E> as Terminal>⟧.streams console.new) }
 {
     let read = read_explained(alloc, job, &mut console.errors)?;
     write_summary(&read.map, &mut console.output)?;

@@ -52,7 +52,8 @@ fn add_file<F: Folder>(
     files: &mut Files,
 ) -> Result<(), AllocError>
     ensures { OnOk result
-        ((names : List (List ℕ)) → FilesOf (F.gives folder.now) names files.old → FilesOf (F.gives folder.now) (names ++ name ∷ []) files.new) }
+        ((names : List (List ℕ)) → FilesOf (F.gives folder.now) names files.old
+        → FilesOf (F.gives folder.now) (names ++ name ∷ []) files.new) }
 {
     match folder.read(alloc, name.as_str())? {
         Some(bytes) => files.add(name, bytes)?,

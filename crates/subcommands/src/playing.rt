@@ -25,7 +25,8 @@ pub fn session<F: Folder, I: Source, O: Sink, E: Sink>(
 ) -> Result<(), Failure>
     ensures plays { PlaysTo (F.gives folder.now) result (⟦<Console<I, O, E> as Terminal>⟧.streams console.old)
         (⟦<Console<I, O, E> as Terminal>⟧.streams console.new) }
-    ensures leaves { Leaves result (⟦<Console<I, O, E> as Terminal>⟧.streams console.old) (⟦<Console<I, O, E> as Terminal>⟧.streams console.new) }
+    ensures leaves { Leaves result
+        (⟦<Console<I, O, E> as Terminal>⟧.streams console.old) (⟦<Console<I, O, E> as Terminal>⟧.streams console.new) }
 {
     let session = match read_all(alloc, &mut console.input) {
         Ok(session) => session,
@@ -48,7 +49,8 @@ pub fn open_map<F: Folder, E: Sink>(
     ensures same { OnOk result (errors.new ≡ errors.old) }
     ensures neither { IfErr result TouchesNeither }
     ensures without { IfErr result
-        (λ failure. IsWithoutMap (F.gives folder.now) failure mapfile.now (⟦<E as Writes>⟧.state errors.old) (⟦<E as Writes>⟧.state errors.new)) }
+        (λ failure. IsWithoutMap (F.gives folder.now) failure mapfile.now
+        (⟦<E as Writes>⟧.state errors.old) (⟦<E as Writes>⟧.state errors.new)) }
 {
     match read_map_of(alloc, folder, false, mapfile) {
         Ok((map, _files)) => Ok(map),

@@ -53,7 +53,8 @@ pub fn read_map_of<F: Folder>(
     explains: bool,
     source: &[u8],
 ) -> Result<(Map, Files), MapFault>
-    ensures map { IfOk result (λ read. (comes : ComesTo (F.gives folder.now) source.now (Ok read.0)) × (comes.files ≡ read.1)) }
+    ensures map { IfOk result
+        (λ read. (comes : ComesTo (F.gives folder.now) source.now (Ok read.0)) × (comes.files ≡ read.1)) }
     ensures fault { IfErr result (IsMapFault (F.gives folder.now) explains source.now) }
 {
     let mapfile = match Mapfile::read(alloc, source) {
@@ -120,18 +121,22 @@ pub fn read_explained<F: Folder, I: Source + HasCause, E: Sink>(
     job: &mut Job<'_, F, I>,
     errors: &mut E,
 ) -> Result<ReadMap, Failure>
-    ensures map { IfOk result (λ read. HasReadMap (F.gives job.old.folder.now) (I.left job.old.mapfile.reader) (I.left job.new.mapfile.reader) read.map) }
+    ensures map { IfOk result
+        (λ read. HasReadMap (F.gives job.old.folder.now)
+        (I.left job.old.mapfile.reader) (I.left job.new.mapfile.reader) read.map) }
     ensures mapfile { IfOk result
         (λ read. HasReadMapfile (F.gives job.old.folder.now) (I.left job.old.mapfile.reader)
         (I.left job.new.mapfile.reader) read.source.items read.files read.map) }
     ensures job { (job.new.mapfile.name.now ≡ job.old.mapfile.name.now) × (job.new.explains ≡ job.old.explains) }
     ensures same { OnOk result (errors.new ≡ errors.old) }
     ensures without { IfErr result
-        (λ failure. GivesNoMap (F.gives job.old.folder.now) job.old.explains failure
+        (λ failure. GivesNoMap (record { gives = F.gives job.old.folder.now; explains = job.old.explains }) failure
         (record { name = job.old.mapfile.name.now; cause = I.cause job.new.mapfile.reader })
-        (I.left job.old.mapfile.reader) (I.left job.new.mapfile.reader) (⟦<E as Writes>⟧.state errors.old) (⟦<E as Writes>⟧.state errors.new)) }
+        (record { before = I.left job.old.mapfile.reader; after = I.left job.new.mapfile.reader })
+        (⟦<E as Writes>⟧.state errors.old) (⟦<E as Writes>⟧.state errors.new)) }
     ensures neither { IfErr result TouchesNeither }
-    ensures leaves { LeavesFile result (⟦<I as Reads>⟧.state job.old.mapfile.reader) (⟦<I as Reads>⟧.state job.new.mapfile.reader) }
+    ensures leaves { LeavesFile result
+        (⟦<I as Reads>⟧.state job.old.mapfile.reader) (⟦<I as Reads>⟧.state job.new.mapfile.reader) }
 {
     let source = read_file(alloc, job.explains, &mut job.mapfile, errors)?;
     match read_map_of(alloc, job.folder, job.explains, &source) {
@@ -147,7 +152,9 @@ pub fn read_explained<F: Folder, I: Source + HasCause, E: Sink>(
 /// Reports the warnings on the map of a job, with the mapfile's name, where the job has `explains`. Where memory is refused for them nothing is
 /// reported.
 pub fn report_warnings<F, I, E: Sink>(alloc: Global, job: &Job<'_, F, I>, map: &Map, errors: &mut E)
-    ensures reports { ReportsWarnings job.now.explains job.now.mapfile.name.now map.now (⟦<E as Writes>⟧.state errors.old) (⟦<E as Writes>⟧.state errors.new) }
+    ensures reports { ReportsWarnings job.now.explains job.now.mapfile.name.now map.now
+        (⟦<E as Writes>⟧.state errors.old)
+        (⟦<E as Writes>⟧.state errors.new) }
     ensures same { job.now.explains ≡ false → errors.new ≡ errors.old }
 {
     if !job.explains {
@@ -166,19 +173,24 @@ pub fn read_map<F: Folder, I: Source + HasCause, E: Sink>(
     job: &mut Job<'_, F, I>,
     errors: &mut E,
 ) -> Result<ReadMap, Failure>
-    ensures map { IfOk result (λ read. HasReadMap (F.gives job.old.folder.now) (I.left job.old.mapfile.reader) (I.left job.new.mapfile.reader) read.map) }
+    ensures map { IfOk result
+        (λ read. HasReadMap (F.gives job.old.folder.now)
+        (I.left job.old.mapfile.reader) (I.left job.new.mapfile.reader) read.map) }
     ensures mapfile { IfOk result
         (λ read. HasReadMapfile (F.gives job.old.folder.now) (I.left job.old.mapfile.reader)
         (I.left job.new.mapfile.reader) read.source.items read.files read.map) }
     ensures warnings { IfOk result
-        (λ read. ReportsWarnings job.old.explains job.old.mapfile.name.now read.map (⟦<E as Writes>⟧.state errors.old) (⟦<E as Writes>⟧.state errors.new)) }
+        (λ read. ReportsWarnings job.old.explains job.old.mapfile.name.now read.map
+        (⟦<E as Writes>⟧.state errors.old) (⟦<E as Writes>⟧.state errors.new)) }
     ensures same { OnOk result (job.old.explains ≡ false → errors.new ≡ errors.old) }
     ensures without { IfErr result
-        (λ failure. GivesNoMap (F.gives job.old.folder.now) job.old.explains failure
+        (λ failure. GivesNoMap (record { gives = F.gives job.old.folder.now; explains = job.old.explains }) failure
         (record { name = job.old.mapfile.name.now; cause = I.cause job.new.mapfile.reader })
-        (I.left job.old.mapfile.reader) (I.left job.new.mapfile.reader) (⟦<E as Writes>⟧.state errors.old) (⟦<E as Writes>⟧.state errors.new)) }
+        (record { before = I.left job.old.mapfile.reader; after = I.left job.new.mapfile.reader })
+        (⟦<E as Writes>⟧.state errors.old) (⟦<E as Writes>⟧.state errors.new)) }
     ensures neither { IfErr result TouchesNeither }
-    ensures leaves { LeavesFile result (⟦<I as Reads>⟧.state job.old.mapfile.reader) (⟦<I as Reads>⟧.state job.new.mapfile.reader) }
+    ensures leaves { LeavesFile result
+        (⟦<I as Reads>⟧.state job.old.mapfile.reader) (⟦<I as Reads>⟧.state job.new.mapfile.reader) }
 {
     let read = read_explained(alloc, job, errors)?;
     report_warnings(alloc, job, &read.map, errors);

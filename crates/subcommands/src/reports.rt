@@ -44,7 +44,8 @@ pub fn report_file<E: Sink>(errors: &mut E, explains: bool, name: &str, cause: U
 
 /// Reports the fault of a mapfile: its line and the number of its kind.
 pub fn report_mapfile_fault<E: Sink>(errors: &mut E, line: u64, kind: u8)
-    ensures { IsReported (⟦<E as Writes>⟧.state errors.old) (⟦<E as Writes>⟧.state errors.new) (mapfile_fault line kind) }
+    ensures { IsReported (⟦<E as Writes>⟧.state errors.old) (⟦<E as Writes>⟧.state errors.new)
+        (mapfile_fault line kind) }
 {
     let (mut line_digits, mut kind_digits) = (Buffer::new(), Buffer::new());
     let line = line_digits.format(line).as_bytes();
@@ -54,7 +55,8 @@ pub fn report_mapfile_fault<E: Sink>(errors: &mut E, line: u64, kind: u8)
 
 /// Reports the fault of a mapfile, and the message on it, if there is one.
 pub fn report_explained<E: Sink>(errors: &mut E, name: &str, fault: Fault, message: &Option<Text>)
-    ensures { IsReported (⟦<E as Writes>⟧.state errors.old) (⟦<E as Writes>⟧.state errors.new) (explained_fault name.now fault message.now) }
+    ensures { IsReported (⟦<E as Writes>⟧.state errors.old) (⟦<E as Writes>⟧.state errors.new)
+        (explained_fault name.now fault message.now) }
 {
     let Fault { line, kind } = fault;
     let Some(message) = message else {

@@ -24,23 +24,42 @@ pub fn run<F: Folder, I: Source + HasCause, S: Source + HasCause, J: Source, O: 
     script: &mut NamedFile<'_, S>,
     console: &mut Console<J, O, E>,
 ) -> Result<(), Failure>
-    ensures runs { RunsTo (F.gives job.old.folder.now) job.old.explains result
-        (record { name = job.old.mapfile.name.now; cause = I.cause job.new.mapfile.reader })
-        (record { name = script.old.name.now; cause = S.cause script.new.reader })
-        (record { mapfile_before = I.left job.old.mapfile.reader; mapfile_after = I.left job.new.mapfile.reader; script_before = S.left script.old.reader; script_after = S.left script.new.reader })
+    ensures runs { RunsTo (record { gives = F.gives job.old.folder.now; explains = job.old.explains }) result
+        (record {
+          mapfile = record { name = job.old.mapfile.name.now; cause = I.cause job.new.mapfile.reader };
+          script = record { name = script.old.name.now; cause = S.cause script.new.reader };
+        })
+        (record {
+          mapfile = record { before = I.left job.old.mapfile.reader; after = I.left job.new.mapfile.reader };
+          script = record { before = S.left script.old.reader; after = S.left script.new.reader };
+        })
         (⟦<Console<J, O, E> as Terminal>⟧.streams console.old) (⟦<Console<J, O, E> as Terminal>⟧.streams console.new) }
     ensures input { console.new.input ≡ console.old.input }
     ensures unread { IfErr result
         (λ failure. failure ≡ FileFailed
-        → ReportsUnread job.old.explains (record { name = job.old.mapfile.name.now; cause = I.cause job.new.mapfile.reader })
-        (record { name = script.old.name.now; cause = S.cause script.new.reader })
+        → ReportsUnread job.old.explains
+        (record {
+          mapfile = record { name = job.old.mapfile.name.now; cause = I.cause job.new.mapfile.reader };
+          script = record { name = script.old.name.now; cause = S.cause script.new.reader };
+        })
         (⟦<E as Writes>⟧.state console.old.errors) (⟦<E as Writes>⟧.state console.new.errors)
-        (⟦<I as Reads>⟧.state job.old.mapfile.reader) (⟦<I as Reads>⟧.state job.new.mapfile.reader) (⟦<S as Reads>⟧.state script.new.reader)
+        (record {
+          mapfile_before = ⟦<I as Reads>⟧.state job.old.mapfile.reader;
+          mapfile_after = ⟦<I as Reads>⟧.state job.new.mapfile.reader;
+          script_before = ⟦<S as Reads>⟧.state script.old.reader;
+          script_after = ⟦<S as Reads>⟧.state script.new.reader;
+        })
         (script.new ≡ script.old)) }
     ensures untouched { IfErr result (λ failure. failure ≡ MapfileFault → script.new ≡ script.old) }
-    ensures files { LeavesFiles result (⟦<I as Reads>⟧.state job.old.mapfile.reader) (⟦<I as Reads>⟧.state job.new.mapfile.reader)
-        (⟦<S as Reads>⟧.state script.old.reader) (⟦<S as Reads>⟧.state script.new.reader) }
-    ensures leaves { Leaves result (⟦<Console<J, O, E> as Terminal>⟧.streams console.old) (⟦<Console<J, O, E> as Terminal>⟧.streams console.new) }
+    ensures files { LeavesFiles result
+        (record {
+          mapfile_before = ⟦<I as Reads>⟧.state job.old.mapfile.reader;
+          mapfile_after = ⟦<I as Reads>⟧.state job.new.mapfile.reader;
+          script_before = ⟦<S as Reads>⟧.state script.old.reader;
+          script_after = ⟦<S as Reads>⟧.state script.new.reader;
+        }) }
+    ensures leaves { Leaves result
+        (⟦<Console<J, O, E> as Terminal>⟧.streams console.old) (⟦<Console<J, O, E> as Terminal>⟧.streams console.new) }
 {
     let explains = job.explains;
     let read = read_map(alloc, job, &mut console.errors)?;

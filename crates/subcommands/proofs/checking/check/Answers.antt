@@ -6,4 +6,4 @@ pub returns-in_err-write_summary-clause-checks : goal.returns-in_err-write_summa
 returns-in_err-write_summary-clause-checks g c =
     let p = err_from_is_err_and c.from_residual-in_err-write_summary.result c.from_residual-in_err-write_summary.ensures.1 in
     rw (p.1, p.2, c.in_ok-read.ensures.same)
-    (unsummed _ c.args.job.now.explains _ _ _ _ _ _ c.in_ok-read.read.map c.in_ok-read.ensures.map c.in_err-write_summary.ensures.sums (unreported _))
+    (unsummed _ _ _ _ _ _ c.in_ok-read.read.map c.in_ok-read.ensures.map c.in_err-write_summary.ensures.sums (unreported _))

@@ -7,14 +7,14 @@ use Rattle.subcommands.proofs.running.run.Goals as goal
 pub returns-clause-runs : goal.returns-clause-runs
 returns-clause-runs g c =
     rw c.in_ok-commands.ensures.same
-    (ran _ c.args.job.now.explains c.play_on.result _ _ _ _ _ c.in_ok-read.read.map c.in_ok-commands.commands.items
+    (ran _ c.play_on.result _ _ _ _ c.in_ok-read.read.map c.in_ok-commands.commands.items
     c.in_ok-read.ensures.map c.in_ok-commands.ensures.bytes (rw c.deref.ensures.value at c.play_on.ensures.ends) c.in_ok-read.ensures.warnings)
 
 pub returns-in_err-commands-clause-runs : goal.returns-in_err-commands-clause-runs
 returns-in_err-commands-clause-runs g c =
     let p = err_from_is_err_and c.from_residual-in_err-commands.result c.from_residual-in_err-commands.ensures.1 in
     rw (p.1, p.2)
-    (unscripted _ c.args.job.now.explains _ _ _ _ _ _ c.in_ok-read.read.map c.in_ok-read.ensures.map
+    (unscripted _ _ _ _ _ _ c.in_ok-read.read.map c.in_ok-read.ensures.map
     (record { errors = _; warnings = c.in_ok-read.ensures.warnings }) c.in_err-commands.ensures.unread (Keeps-refl _))
 
 pub returns-in_err-commands-clause-unread : goal.returns-in_err-commands-clause-unread
