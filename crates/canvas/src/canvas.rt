@@ -130,6 +130,14 @@ impl Canvas {
         self.height
     }
 
+    /// Its pixels row by row from the top, each row from the left.
+    pub fn pixels(&self) -> &[PixelColour]
+        ensures value { result.now ≡ self.now.pixels }
+        ensures area { length result.now ≡ self.now.width * self.now.height }
+    {
+        self.pixels.as_slice()
+    }
+
     /// Gives the colour to the pixels of the row `j` that lie in the spans.
     pub fn fill_row(&mut self, j: u16, spans: &[Span], colour: Rgb)
         requires row { j < self.old.height }

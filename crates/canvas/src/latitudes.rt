@@ -2,12 +2,12 @@ ghost use Rattle.std.specs.Prelude.{◌≡◌, ◌<◌, ◌+◌, pos, IfOk};
 ghost use Rattle.canvas.specs.Latitudes.{AreBands, IsBand, row_of};
 
 use clip::first_row;
-use geom::{Coordinate, GREATEST_COORDINATE, LEAST_COORDINATE, Micro, PictureSide};
+use geom::{Coordinate, GREATEST_COORDINATE, LEAST_COORDINATE, Micro};
 use std::alloc::{AllocError, Global};
 use std::marker::Model;
-use viewport::{Heights, Projection};
+use viewport::{Projection, View};
 
-/// Two latitudes of a row of a picture: each latitude between them is of that row. If the southern one is the greater,
+/// Two latitudes of a row of a canvas: each latitude between them is of that row. If the southern one is the greater,
 /// the band is empty, and they needn't be of the row.
 #[derive(Clone, Copy)]
 pub struct Band {
@@ -15,14 +15,11 @@ pub struct Band {
     pub north: Coordinate,
 }
 
-/// The bands of the rows of a picture, from the top, and last the band of what lies below them; or none yet. Each is
-/// guessed, and tested when the table is made. The table keeps the latitudes and the height of its picture.
+/// The bands of the rows of a view's canvas, from the top, and last the band of what lies below them; or none yet. Each is
+/// guessed, and tested when the table is made. The table keeps the view.
 #[derive(Drop)]
 pub struct RowLatitudes {
-    heights: Heights,
-    south: Micro,
-    north: Micro,
-    height: PictureSide,
+    view: View,
     bands: Vec<Band>,
 }
 
@@ -31,34 +28,25 @@ impl Model for RowLatitudes {
 
     ghost Value = { BandsValue };
 
-    ghost view = { λ r. record { heights = r.heights; south = r.south; north = r.north; height = r.height; bands = r.bands.items } };
+    ghost view = { λ r. record { view = r.view; bands = r.bands.items } };
 
-    ghost invariant = { λ r. AreBands r.heights r.south r.north r.height r.bands.items };
+    ghost invariant = { λ r. AreBands r.view r.bands.items };
 }
 
 impl RowLatitudes {
-    // No bands yet of a projection's picture. It takes no memory.
+    // No bands yet of a projection's canvas. It takes no memory.
     pub(crate) fn new(alloc: Global, projection: &Projection) -> Self {
-        let area = projection.area();
         RowLatitudes {
-            heights: projection.heights(),
-            south: area.miny(),
-            north: area.maxy(),
-            height: projection.height(),
+            view: projection.view(),
             bands: Vec::new(alloc),
         }
     }
 
-    // The bands of a projection's picture. It divides once for each row.
+    // The bands of a projection's canvas. It divides once for each row.
     pub(crate) fn of(alloc: Global, projection: &Projection) -> Result<Self, AllocError> {
-        let height = projection.height();
         let bands = bands_of(alloc, projection)?;
-        let area = projection.area();
         Ok(RowLatitudes {
-            heights: projection.heights(),
-            south: area.miny(),
-            north: area.maxy(),
-            height,
+            view: projection.view(),
             bands,
         })
     }
@@ -68,25 +56,20 @@ impl RowLatitudes {
         self.bands.is_empty()
     }
 
-    /// The bands, or none if the projection is of another picture.
+    /// The bands, or none if the projection is of another view.
     pub fn bands(&self, projection: &Projection) -> &[Band]
-        ensures { AreBands projection.now.heights projection.now.area.miny projection.now.area.maxy projection.now.height result.now }
+        ensures { AreBands projection.now result.now }
     {
-        let area = projection.area();
-        if self.height.pixels() == projection.height().pixels()
-            && self.south.millionths() == area.miny().millionths()
-            && self.north.millionths() == area.maxy().millionths()
-            && self.heights == projection.heights()
-        {
+        if projection.shows(self.view) {
             return self.bands.as_slice();
         }
         &[]
     }
 }
 
-// The bands of a picture's rows.
+// The bands of a canvas's rows.
 fn bands_of(alloc: Global, projection: &Projection) -> Result<Vec<Band>, AllocError>
-    ensures { IfOk result (λ bands. AreBands projection.now.heights projection.now.area.miny projection.now.area.maxy projection.now.height bands.items) }
+    ensures { IfOk result (λ bands. AreBands projection.now bands.items) }
 {
     let rows = projection.height().pixels();
     let mut bands = Vec::with_capacity(alloc, usize::from(rows) + 1)?;
@@ -101,7 +84,7 @@ fn bands_of(alloc: Global, projection: &Projection) -> Result<Vec<Band>, AllocEr
 
 // The band of a row: the one between two guessed latitudes if both are of the row, else an empty one.
 fn band_of(projection: &Projection, row: u16, south: Coordinate, north: Coordinate) -> Band
-    ensures { IsBand projection.now.heights projection.now.area.miny projection.now.area.maxy projection.now.height row result }
+    ensures { IsBand projection.now row result }
 {
     let rows = (row_at(projection, south), row_at(projection, north));
     if rows.0 == row && rows.1 == row {
@@ -120,7 +103,7 @@ fn latitude(millionths: u8) -> Coordinate
     Coordinate::new(Micro::new(i64::from(millionths)))
 }
 
-/// The first row whose pixel centres lie at that latitude or below it, or the picture's height.
+/// The first row whose pixel centres lie at that latitude or below it, or the canvas's height.
 pub fn row_at(projection: &Projection, latitude: Coordinate) -> u16
     ensures { result ≡ row_of projection.now latitude }
 {

@@ -1,5 +1,5 @@
 -- What is drawn, with labels over it, is the picture; and there is one.
-use Rattle.std.proofs.Common.{◌≡◌, ◌∙◌, zero, suc, ℕ, ◌+◌, ◌*◌, ◌/◌, ◌%◌, ◌<◌, List, [], ◌++◌, length, replicate, Option, None, Some, refl, sym, arith, subst}
+use Rattle.std.proofs.Common.{◌≡◌, ◌∙◌, zero, suc, ℕ, ◌+◌, ◌*◌, ◌/◌, ◌%◌, ◌<◌, List, ◌++◌, length, Option, None, Some, refl, sym, arith, subst}
 use Rattle.std.proofs.lemmas.List.{same_lists}
 use Rattle.std.proofs.lemmas.Nat.{div_below}
 use Rattle.std.proofs.lemmas.Option.{get_or_from_slice_get}
@@ -13,7 +13,7 @@ use Rattle.mapdefs.specs.declared.font.FontFields.{FontFields}
 use Rattle.mapdefs.specs.declared.picture.PictureFields.{PictureFields}
 use Rattle.scene.specs.Scene.{SceneValue}
 use Rattle.viewport.specs.View.{ViewValue}
-use Rattle.compose.specs.Drawn.{DrawingValue, HasLabels, IsDrawn}
+use Rattle.compose.specs.Drawn.{blank_of, DrawingValue, HasLabels, IsDrawn}
 use Rattle.compose.specs.Labels.{ArePlaced, candidate_list, ink_list}
 use Rattle.compose.specs.Paint.{paint_list}
 use Rattle.canvas.specs.Painted.{colour_at}
@@ -21,10 +21,6 @@ use Rattle.compose.specs.Picture.{HasOnePicture, IsPictureOf}
 use Rattle.compose.specs.Walk.{classified_list}
 use Rattle.canvas.proofs.Painting.{painted-append, painted-area, painted-pixels}
 use Rattle.compose.proofs.Walking.{paint-list-of-classified}
-
--- a canvas of the background, without candidates
-abbrev pub blank_of : ViewValue → Option Rgb → DrawingValue
-blank_of view background = record { canvas = record { width = view.width; height = view.height; pixels = replicate (view.width * view.height) background }; labels = [] }
 
 -- from a canvas on which all classified features were drawn, and labels of the candidates were painted
 finished-canvas : (scene : SceneValue) (chosen : List ℕ) (background : Option Rgb) (b : DrawingValue) (c : PictureFields) →
@@ -47,10 +43,14 @@ finished-canvas scene chosen background b c drawn labelled =
       pixels = painted-pixels view background _ c all;
     }
 
-pub finished : (scene : SceneValue) (chosen : List ℕ) (background : Option Rgb) (a b : DrawingValue) (c : PictureFields) → a ≡ blank_of scene.view background →
-    IsDrawn scene a b (classified_list scene.scale scene.map chosen) → HasLabels scene b.labels b.canvas c → IsPictureOf scene.map scene.view scene.scale chosen background c
-finished scene chosen background a b c e drawn labelled =
-    finished-canvas scene chosen background b c (subst (λ (x : DrawingValue). IsDrawn scene x b (classified_list scene.scale scene.map chosen)) e drawn) labelled
+pub finished : (scene : SceneValue) (chosen : List ℕ) (background : Option Rgb) (b : DrawingValue) (c : PictureFields) →
+    IsDrawn scene (blank_of scene.view background) b (classified_list scene.scale scene.map chosen) → HasLabels scene b.labels b.canvas c → IsPictureOf scene.map scene.view scene.scale chosen background c
+finished scene chosen background b c drawn labelled = finished-canvas scene chosen background b c drawn labelled
+
+-- drawn from what is blank
+pub from-blank : (scene : SceneValue) (chosen : List ℕ) (background : Option Rgb) (a b : DrawingValue) → a ≡ blank_of scene.view background →
+    IsDrawn scene a b (classified_list scene.scale scene.map chosen) → IsDrawn scene (blank_of scene.view background) b (classified_list scene.scale scene.map chosen)
+from-blank scene chosen background a b e drawn = subst (λ (x : DrawingValue). IsDrawn scene x b (classified_list scene.scale scene.map chosen)) e drawn
 
 -- candidates have one list of labels
 one-labelling : (view : ViewValue) (font : Option FontFields) (candidates : List CandidateValue) (a b : List Placed) → ArePlaced view font candidates a → ArePlaced view font candidates b → a ≡ b

@@ -7,8 +7,6 @@ use Rattle.std.specs.List.{Contains, flat_map, slice_get}
 use Rattle.std.specs.List.Sorted.{IsStrictlyIncreasing, IsStrictlySortedBy}
 use Rattle.std.specs.Option.{option_map_or}
 use Rattle.geom.specs.Device.{PixelValue}
-use Rattle.geom.specs.Side.{IsPictureSide}
-use Rattle.geom.specs.World.{IsExtent}
 use Rattle.mapdefs.specs.Class.{class_of}
 use Rattle.mapdefs.specs.Near.{HasBoxIn}
 use Rattle.mapdefs.specs.declared.class.ClassFields.{ClassFields}
@@ -16,7 +14,7 @@ use Rattle.mapdefs.specs.declared.feature.FeatureFields.{FeatureFields}
 use Rattle.mapdefs.specs.declared.font.FontFields.{FontFields}
 use Rattle.mapdefs.specs.declared.label.LabelFields.{LabelFields}
 use Rattle.mapdefs.specs.declared.layer.LayerFields.{LayerFields}
-use Rattle.viewport.specs.View.{ViewValue, window}
+use Rattle.viewport.specs.View.{IsView, ViewValue, window}
 use Rattle.compose.specs.Anchor.{shown_anchor}
 use Rattle.compose.specs.Labels.{FoundLabelAll, candidate_at, label_text, classified_candidates}
 use Rattle.compose.specs.Walk.{given_at, classified_feature}
@@ -79,11 +77,11 @@ found-all {X} {Y} f xs found rising indices nothing =
     missed k (Some x) e n = rw e (nothing k x e n)
 
 -- a feature gives no candidate, or has its box in the window
-module _ (view : ViewValue) (margin : ℕ) (layer : LayerFields) (feature : FeatureFields) (extent : IsExtent view.area) (width : IsPictureSide view.width) (height : IsPictureSide view.height) where
+module _ (view : ViewValue) (margin : ℕ) (layer : LayerFields) (feature : FeatureFields) (limits : IsView view) where
   by-anchor : (label : LabelFields) (o : Option PixelValue) → shown_anchor view layer.kind feature ≡ o →
       (option_map_or (candidate_at label (label_text layer feature)) o [] ++ [] ≡ []) ⊎ HasBoxIn (window view margin) feature
   by-anchor label None e = inl refl
-  by-anchor label (Some p) e = inr (anchors-near view margin layer.kind feature p extent width height e)
+  by-anchor label (Some p) e = inr (anchors-near view margin layer.kind feature p limits e)
 
   by-label : (o : Option LabelFields) →
       (option_map_or (λ label. option_map_or (candidate_at label (label_text layer feature)) (shown_anchor view layer.kind feature) []) o [] ++ [] ≡ []) ⊎ HasBoxIn (window view margin) feature
@@ -106,11 +104,11 @@ given-nested {X} {Y} {Z} f g h same xs found = nested f (given_at g xs) (given_a
     go (Some x) = same x
 
 pub found-label-all : FoundLabelAll
-found-label-all view margin scale font layer found extent width height are =
+found-label-all view margin scale font layer found limits are =
     let candidates = classified_candidates view font in
     let each = λ (feature : FeatureFields). flat_map candidates (classified_feature scale layer feature) in
     sym (given-nested candidates (classified_feature scale layer) each (λ feature. refl) layer.features found)
     ∙ (found-all each layer.features found are.rising are.indices
     (λ k feature is missed. ⊎_elim (λ (e : each feature ≡ []). e) (λ (meets : HasBoxIn (window view margin) feature). absurd (missed (are.each k feature is meets)))
-    (by-class view margin layer feature extent width height font (class_of scale layer feature)))
+    (by-class view margin layer feature limits font (class_of scale layer feature)))
     ∙ nested candidates (classified_feature scale layer) each (λ feature. refl) layer.features)

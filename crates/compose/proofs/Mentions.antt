@@ -8,8 +8,6 @@ use Rattle.std.specs.List.{Contains, flat_map, find, list_any}
 use Rattle.std.specs.Option.{is_some, option_map_or}
 use Rattle.std.specs.Prelude.{slice_get}
 use Rattle.geom.specs.Scale.{PictureScale}
-use Rattle.geom.specs.Side.{IsPictureSide}
-use Rattle.geom.specs.World.{IsExtent}
 use Rattle.labelcache.specs.Candidate.{CandidateValue}
 use Rattle.mapdefs.proofs.Containing.{first_or}
 use Rattle.mapdefs.specs.Class.{admits, is_visible_layer}
@@ -23,7 +21,7 @@ use Rattle.mapdefs.specs.declared.colour.Rgb.{Rgb}
 use Rattle.mapdefs.specs.declared.map.MapFields.{MapFields}
 use Rattle.mapdefs.specs.declared.picture.PictureFields.{PictureFields}
 use Rattle.scene.specs.Scene.{SceneValue}
-use Rattle.viewport.specs.View.{ViewValue, window}
+use Rattle.viewport.specs.View.{IsView, ViewValue, window}
 use Rattle.compose.specs.Anchor.{shown_anchor}
 use Rattle.compose.specs.Drawn.{DrawingValue, IsDrawn, IsMentioned}
 use Rattle.compose.specs.Labels.{candidate_at, candidate_list, has_label, label_text, classified_candidates}
@@ -231,9 +229,9 @@ unlabelled-layer scene index layer labels is shown none =
 
 -- and a layer that shows has the candidates of what is found
 pub found-layer : (scene : SceneValue) (index : ℕ) (layer : LayerFields) (found : List ℕ) (a b : List CandidateValue) → slice_get scene.map.layers index ≡ Some layer →
-    is_visible_layer scene.scale layer ≡ true → IsExtent scene.view.area → IsPictureSide scene.view.width → IsPictureSide scene.view.height →
+    is_visible_layer scene.scale layer ≡ true → IsView scene.view →
     AreCandidates layer.features (window scene.view 0) found →
     b ≡ a ++ flat_map (classified_candidates scene.view scene.map.font) (flat_map (given_at (classified_feature scene.scale layer) layer.features) found) →
     b ≡ a ++ flat_map (classified_candidates scene.view scene.map.font) (classified_chosen scene.scale scene.map index)
-found-layer scene index layer found a b is shown extent width height are p =
-    rw (is, shown) (p ∙ ap (λ (z : List CandidateValue). a ++ z) (found-label-all scene.view 0 scene.scale scene.map.font layer found extent width height are))
+found-layer scene index layer found a b is shown limits are p =
+    rw (is, shown) (p ∙ ap (λ (z : List CandidateValue). a ++ z) (found-label-all scene.view 0 scene.scale scene.map.font layer found limits are))

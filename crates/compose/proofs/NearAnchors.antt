@@ -120,7 +120,7 @@ shown view place p e = go (is_shown view (pixel_of (device_point view place))) r
     go false is = absurd (let none : None ≡ Some p = rw is at e in cc)
 
 pub anchors-near : AnchorsAreNear
-anchors-near view margin k feature p extent width height e = on-parts (slice_get feature.parts 0) refl e
+anchors-near view margin k feature p limits e = on-parts (slice_get feature.parts 0) refl e
   where
     on-place : (part : List Place) → slice_get feature.parts 0 ≡ Some part → (o : Option Place) → anchor_on k part ≡ o → option_and_then (shown_pixel view) o ≡ Some p →
         HasBoxIn (window view margin) feature
@@ -128,7 +128,7 @@ anchors-near view margin k feature p extent width height e = on-parts (slice_get
     on-place part is (Some place) at e =
         let among : Contains feature.parts part = (0, slice_get_within feature.parts 0 part is, get_or_from_slice_get feature.parts 0 part part is) in (
           place,
-          window-law view margin place extent width height (shown-near view margin (pixel_of (device_point view place)) (shown view place p e)),
+          window-law view margin place limits (shown-near view margin (pixel_of (device_point view place)) (shown view place p e)),
           lies-flat feature.parts part among place (anchor-lies k part place at),
         )
 

@@ -129,7 +129,7 @@ classed-round view symbols layer feature (Some class) i j there column row h =
 
 -- the law
 pub paints-near : PaintsNear
-paints-near view scale symbols layer feature i j extent width height column row h =
-    box-in view (margin_of symbols layer) (points_of feature) extent width height
+paints-near view scale symbols layer feature i j limits column row h =
+    box-in view (margin_of symbols layer) (points_of feature) limits
     (classed-round view symbols layer feature (class_of scale layer feature) i j
     (λ c e. found-there (admits scale layer feature) layer.classes c e) column row h)

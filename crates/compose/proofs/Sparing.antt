@@ -5,14 +5,13 @@ use Rattle.std.proofs.lemmas.Option.{slice_get-get_or}
 use Rattle.std.specs.List.{flat_map}
 use Rattle.std.specs.Prelude.{slice_get}
 use Rattle.geom.specs.Scale.{PictureScale}
-use Rattle.geom.specs.Side.{IsPictureSide}
-use Rattle.geom.specs.World.{Area, IsExtent}
+use Rattle.geom.specs.World.{Area}
 use Rattle.mapdefs.specs.Near.{AreCandidates, AreCandidatesOf}
 use Rattle.mapdefs.specs.declared.layer.LayerFields.{LayerFields}
 use Rattle.mapdefs.specs.declared.map.MapFields.{MapFields}
 use Rattle.mapdefs.specs.declared.picture.PictureFields.{PictureFields}
 use Rattle.mapdefs.specs.declared.symbol.Symbol.{Symbol}
-use Rattle.viewport.specs.View.{ViewValue, window}
+use Rattle.viewport.specs.View.{IsView, ViewValue, window}
 use Rattle.compose.specs.Near.{margin_of}
 use Rattle.compose.specs.Drawn.{DrawingValue, IsDrawn}
 use Rattle.compose.specs.Walk.{ClassifiedFeatureValue, given_at, classified_chosen, classified_feature, classified_layer, classified_shapes}
@@ -41,31 +40,31 @@ column-below at w some = omega arith
 
 -- the candidates in the window of a layer's margin paint what all its features do
 pub spared : (view : ViewValue) (scale : PictureScale) (symbols : List Symbol) (layer : LayerFields) (found : List ℕ) (a b : PictureFields) →
-    IsExtent view.area → IsPictureSide view.width → IsPictureSide view.height → a.width ≡ view.width → a.height ≡ view.height → length a.pixels ≡ a.width * a.height →
+    IsView view → a.width ≡ view.width → a.height ≡ view.height → length a.pixels ≡ a.width * a.height →
     AreCandidates layer.features (window view (margin_of symbols layer)) found →
     IsPainted a b (flat_map (given_at (feature_shapes view scale symbols layer) layer.features) found) →
     IsPainted a b (flat_map (feature_shapes view scale symbols layer) layer.features)
-spared view scale symbols layer found a b extent width height wide high area are p = record {
+spared view scale symbols layer found a b limits wide high area are p = record {
   width = p.width;
   height = p.height;
   area = p.area;
   pixels = λ at h.
-      let some : 0 < a.width = omega (arith, wide, width.some) in
+      let some : 0 < a.width = omega (arith, wide, limits.across.some) in
       let column : at % a.width < view.width = omega (arith, wide, column-below at a.width some) in
       let row : at / a.width < view.height = omega (arith, high, div_below at a.width a.height some (omega (arith, area, h))) in
       p.pixels at h
       ∙ paint-all (feature_shapes view scale symbols layer) layer.features found (colour_of a.pixels at) (at % a.width) (at / a.width) are.rising are.indices
-      (λ k feature is covered. are.each k feature is (paints-near view scale symbols layer feature (at % a.width) (at / a.width) extent width height column row covered));
+      (λ k feature is covered. are.each k feature is (paints-near view scale symbols layer feature (at % a.width) (at / a.width) limits column row covered));
 }
 
 -- and they give the same candidates for labels, so that drawing what is found draws all
 pub spared-drawing : (scene : SceneValue) (layer : LayerFields) (found : List ℕ) (a b : DrawingValue) →
-    IsExtent scene.view.area → IsPictureSide scene.view.width → IsPictureSide scene.view.height →
+    IsView scene.view →
     a.canvas.width ≡ scene.view.width → a.canvas.height ≡ scene.view.height → length a.canvas.pixels ≡ a.canvas.width * a.canvas.height →
     AreCandidates layer.features (window scene.view (margin_of scene.map.symbols layer)) found →
     IsDrawn scene a b (flat_map (given_at (classified_feature scene.scale layer) layer.features) found) →
     IsDrawn scene a b (flat_map (classified_feature scene.scale layer) layer.features)
-spared-drawing scene layer found a b extent width height wide high area are p =
+spared-drawing scene layer found a b limits wide high area are p =
     let view = scene.view in
     let symbols = scene.map.symbols in
     let shapes = classified_shapes view symbols in
@@ -73,11 +72,11 @@ spared-drawing scene layer found a b extent width height wide high area are p =
     let same = of-feature view scene.scale symbols layer in
     record {
       painted = rw (← nested shapes (classified_feature scene.scale layer) painted same layer.features)
-          (spared view scene.scale symbols layer found a.canvas b.canvas extent width height wide high area are
+          (spared view scene.scale symbols layer found a.canvas b.canvas limits wide high area are
           (rw (← given-nested shapes (classified_feature scene.scale layer) painted same layer.features found) at p.painted));
       labelled = p.labelled
           ∙ ap (λ (z : List CandidateValue). a.labels ++ z)
-          (found-label-all view (margin_of symbols layer) scene.scale scene.map.font layer found extent width height are);
+          (found-label-all view (margin_of symbols layer) scene.scale scene.map.font layer found limits are);
     }
 
 -- the classified features of a layer are those of its index in the map

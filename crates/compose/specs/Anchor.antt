@@ -4,13 +4,12 @@ use Rattle.std.specs.Int.{int_div_euclid, int_max, int_min}
 use Rattle.std.specs.List.{fold}
 use Rattle.std.specs.Option.{option_and_then}
 use Rattle.geom.specs.Device.{PixelValue, pixel_of}
-use Rattle.geom.specs.Side.{IsPictureSide}
-use Rattle.geom.specs.World.{Place, IsExtent}
+use Rattle.geom.specs.World.{Place}
 use Rattle.mapdefs.specs.Near.{HasBoxIn}
 use Rattle.mapdefs.specs.declared.feature.FeatureFields.{FeatureFields}
 use Rattle.mapdefs.specs.declared.layer.Geometry.{Geometry}
 use Rattle.mapdefs.specs.declared.layer.Geometry.TheVariants as kind
-use Rattle.viewport.specs.View.{ViewValue, device_point, window}
+use Rattle.viewport.specs.View.{IsView, ViewValue, device_point, window}
 
 -- the middle between two numbers, halved downwards
 abbrev pub halfway : ℤ → ℤ → ℤ
@@ -50,5 +49,5 @@ shown_anchor view kind feature = option_and_then (shown_pixel view) (anchor_plac
 -- the law: where the pixel of a feature's anchor lies in the picture, its box meets the window of every margin
 abbrev pub AnchorsAreNear : Type 0
 AnchorsAreNear = (view : ViewValue) (margin : ℕ) (k : Geometry) (feature : FeatureFields) (p : PixelValue) →
-    IsExtent view.area → IsPictureSide view.width → IsPictureSide view.height →
+    IsView view →
     shown_anchor view k feature ≡ Some p → HasBoxIn (window view margin) feature

@@ -1,10 +1,12 @@
 -- Painting the classified features and adding their candidates, in one walk; and then the labels (docs/DRAWING.md, "Labels").
-use Rattle.std.specs.Prelude.{◌≡◌, ℕ, List, ◌++◌, ◌⊎◌}
+use Rattle.std.specs.Prelude.{◌≡◌, ℕ, ◌*◌, List, [], ◌++◌, replicate, Option, ◌⊎◌}
 use Rattle.std.specs.List.{Contains, flat_map}
 use Rattle.labelcache.specs.Candidate.{CandidateValue}
 use Rattle.labelcache.specs.declared.cache.Placed.{Placed}
+use Rattle.mapdefs.specs.declared.colour.Rgb.{Rgb}
 use Rattle.mapdefs.specs.declared.picture.PictureFields.{PictureFields}
 use Rattle.scene.specs.Scene.{SceneValue}
+use Rattle.viewport.specs.View.{ViewValue}
 use Rattle.compose.specs.Labels.{ArePlaced, ink_list, classified_candidates}
 use Rattle.canvas.specs.Painted.{IsPainted}
 use Rattle.compose.specs.Walk.{ClassifiedFeatureValue, classified_chosen, classified_shapes}
@@ -13,6 +15,10 @@ use Rattle.compose.specs.Walk.{ClassifiedFeatureValue, classified_chosen, classi
 pub record DrawingValue : Type 0 where
   pub canvas : PictureFields
   pub labels : List CandidateValue
+
+-- a canvas of the background, without candidates
+abbrev pub blank_of : ViewValue → Option Rgb → DrawingValue
+blank_of view background = record { canvas = record { width = view.width; height = view.height; pixels = replicate (view.width * view.height) background }; labels = [] }
 
 -- the classified features have been painted over the picture, and their candidates are added
 pub record IsDrawn (scene : SceneValue) (old new : DrawingValue) (classified : List ClassifiedFeatureValue) : Type 0 where

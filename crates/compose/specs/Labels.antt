@@ -6,8 +6,6 @@ use Rattle.std.specs.Str.{chars, encode_utf8_all}
 use Rattle.bdffont.specs.declared.text.TheConstants.{MAX_CHARACTERS}
 use Rattle.geom.specs.Device.{PixelValue}
 use Rattle.geom.specs.Scale.{PictureScale}
-use Rattle.geom.specs.Side.{IsPictureSide}
-use Rattle.geom.specs.World.{IsExtent}
 use Rattle.labelcache.specs.Candidate.{CandidateValue}
 use Rattle.labelcache.specs.Placement.{IsPlacement, setting}
 use Rattle.labelcache.specs.declared.cache.Placed.{Placed}
@@ -20,7 +18,7 @@ use Rattle.mapdefs.specs.declared.font.FontFields.{FontFields}
 use Rattle.mapdefs.specs.declared.label.LabelFields.{LabelFields}
 use Rattle.mapdefs.specs.declared.layer.LayerFields.{LayerFields}
 use Rattle.mapdefs.specs.declared.map.MapFields.{MapFields}
-use Rattle.viewport.specs.View.{ViewValue, window}
+use Rattle.viewport.specs.View.{IsView, ViewValue, window}
 use Rattle.compose.specs.Anchor.{shown_anchor}
 use Rattle.canvas.specs.Shapes.{PaintedShape, Written}
 use Rattle.canvas.specs.Shapes as shape
@@ -67,7 +65,7 @@ candidate_list view scale m chosen = flat_map (classified_candidates view m.font
 -- the law: what is found in a window of the picture, whatever its margin, gives the candidates that all features of the layer give, in the same order
 abbrev pub FoundLabelAll : Type 0
 FoundLabelAll = (view : ViewValue) (margin : ℕ) (scale : PictureScale) (font : Option FontFields) (layer : LayerFields) (found : List ℕ) →
-    IsExtent view.area → IsPictureSide view.width → IsPictureSide view.height → AreCandidates layer.features (window view margin) found →
+    IsView view → AreCandidates layer.features (window view margin) found →
     flat_map (classified_candidates view font) (flat_map (given_at (classified_feature scale layer) layer.features) found)
     ≡ flat_map (classified_candidates view font) (flat_map (classified_feature scale layer) layer.features)
 

@@ -6,14 +6,12 @@ use Rattle.mapdefs.specs.declared.colour.Rgb.{Rgb}
 use Rattle.canvas.specs.Painted.{colour_at}
 use Rattle.std.specs.Option.{option_map_or}
 use Rattle.geom.specs.Scale.{PictureScale}
-use Rattle.geom.specs.Side.{IsPictureSide}
-use Rattle.geom.specs.World.{IsExtent}
 use Rattle.mapdefs.specs.declared.class.ClassFields.{ClassFields}
 use Rattle.mapdefs.specs.declared.feature.FeatureFields.{FeatureFields}
 use Rattle.mapdefs.specs.declared.layer.LayerFields.{LayerFields}
 use Rattle.mapdefs.specs.declared.style.StyleFields.{StyleFields}
 use Rattle.mapdefs.specs.declared.symbol.Symbol.{Symbol}
-use Rattle.viewport.specs.View.{ViewValue, window}
+use Rattle.viewport.specs.View.{IsView, ViewValue, window}
 use Rattle.canvas.specs.Shapes.{PaintedShape, covers}
 use Rattle.compose.specs.Paint.{feature_shapes}
 use Rattle.compose.specs.Walk.{given_at}
@@ -44,7 +42,7 @@ margin_of symbols layer = furthest symbols (flat_map (λ (class : ClassFields). 
 -- the law: where some shape that is painted of a feature covers a pixel of the picture, its box meets the window of the layer's margin
 abbrev pub PaintsNear : Type 0
 PaintsNear = (view : ViewValue) (scale : PictureScale) (symbols : List Symbol) (layer : LayerFields) (feature : FeatureFields) (i j : ℕ) →
-    IsExtent view.area → IsPictureSide view.width → IsPictureSide view.height → i < view.width → j < view.height →
+    IsView view → i < view.width → j < view.height →
     list_any (λ shape. covers shape i j) (feature_shapes view scale symbols layer feature) ≡ true →
     HasBoxIn (window view (margin_of symbols layer)) feature
 

@@ -44,6 +44,13 @@ impl Drawing<'_> {
         })
     }
 
+    /// The canvas, without labels.
+    pub fn into_canvas(self) -> Canvas
+        ensures { result ≡ self.entry.canvas }
+    {
+        self.canvas
+    }
+
     /// The canvas, with the labels of the candidates placed and painted over it.
     pub fn into_labelled(self, scene: &Scene<'_>) -> Result<Canvas, AllocError>
         ensures { IfOk result (HasLabels scene.now self.entry.labels self.entry.canvas) }

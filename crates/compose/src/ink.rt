@@ -102,8 +102,8 @@ fn paint_candidate(
     text.paint_ink(canvas, label.colour)
 }
 
-// Paints a label.
-fn paint_label(
+/// Paints a label.
+pub fn paint_label(
     canvas: &mut Canvas,
     font: &Font,
     labels: &Cache<'_>,

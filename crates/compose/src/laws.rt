@@ -1,10 +1,13 @@
 //! Laws of the definitions. A law is a function without arguments whose contract states it.
 
 ghost use Rattle.compose.specs.Anchor.{AnchorsAreNear};
+ghost use Rattle.compose.specs.Blocks.{BlocksAreParts, BlocksPaintParts, BlocksPaintTheSame, PaintedBlocksAreBlocks, ShapesMove};
 ghost use Rattle.compose.specs.Classes.{CommonClassIsOfAll};
 ghost use Rattle.compose.specs.Labels.{FoundLabelAll};
 ghost use Rattle.compose.specs.Near.{CandidatesPaintAll, PaintsNear};
 ghost use Rattle.compose.specs.Picture.{HasOnePicture, LastMentionsPaintAll};
+ghost use Rattle.compose.specs.Smooth.{BlocksHaveWholePixels, HasOneSmoothPicture, RowsBeginAnywhere, SmoothByOneIsThePicture};
+ghost use Rattle.compose.specs.Tiles.{DrawnIsSmooth};
 ghost use Rattle.compose.specs.Walk.{PaintListIsOfClassified};
 
 /// A feature that paints a pixel of the picture has its box in the window of its layer's margin. So what is
@@ -48,4 +51,51 @@ pub fn last_mentions_paint_all()
 /// A first class of a layer that has no expression and no bounds on the scale is the class of each of its features.
 pub fn common_class()
     ensures { CommonClassIsOfAll }
+{}
+
+/// A shape as it lies from a pixel covers, as many columns and rows behind it, what the shape covers, and gives it the
+/// same colours.
+pub fn shapes_move()
+    ensures { ShapesMove }
+{}
+
+/// What is painted on a block of a picture is what is painted on the whole, from the block's first pixel.
+pub fn blocks_paint_the_same()
+    ensures { BlocksPaintTheSame }
+{}
+
+/// On a block of a picture each pixel has the colour that it has on the whole, whatever is placed on the whole.
+pub fn blocks_are_parts()
+    ensures features { BlocksPaintParts }
+    ensures all { BlocksAreParts }
+{}
+
+/// The background that is painted over with what a block has is the block of the whole picture.
+pub fn painted_blocks()
+    ensures { PaintedBlocksAreBlocks }
+{}
+
+/// A pixel of a smoothed block is that of the smoothed whole, if the block begins with a whole pixel.
+pub fn blocks_have_whole_pixels()
+    ensures { BlocksHaveWholePixels }
+{}
+
+/// There is one smoothed picture.
+pub fn one_smooth_picture()
+    ensures { HasOneSmoothPicture }
+{}
+
+/// Where a map's pixel is one pixel of the picture, the smoothed picture is the picture.
+pub fn smooth_by_one()
+    ensures { SmoothByOneIsThePicture }
+{}
+
+/// Tiles of the whole fine picture with its labels make the smoothed picture.
+pub fn drawn_is_smooth()
+    ensures { DrawnIsSmooth }
+{}
+
+/// A row of the smoothed picture of some pixels is the first one of the pixels without those of the rows before it.
+pub fn rows_begin_anywhere()
+    ensures { RowsBeginAnywhere }
 {}

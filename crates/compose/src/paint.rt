@@ -1,9 +1,9 @@
 ghost use Rattle.std.specs.Prelude.{◌≡◌, ◌<◌, ◌*◌, All, IfOk, OnOk, length};
 ghost use Rattle.std.specs.List.{flat_map};
-ghost use Rattle.compose.specs.Drawn.{IsDrawn, IsMentioned};
+ghost use Rattle.compose.specs.Drawn.{IsDrawn, IsMentioned, blank_of};
 ghost use Rattle.canvas.specs.Painted.{IsPainted};
 ghost use Rattle.compose.specs.Picture.{IsPictureOf};
-ghost use Rattle.compose.specs.Walk.{given_at, classified_chosen, classified_feature, classified_shapes};
+ghost use Rattle.compose.specs.Walk.{given_at, classified_chosen, classified_feature, classified_list, classified_shapes};
 
 use crate::classified_feature::ClassifiedFeature;
 use crate::drawing::Drawing;
@@ -56,6 +56,25 @@ pub fn draw<N: Near>(
     requires layers { All (λ index. index < length scene.now.map.layers) asked.now.chosen.now }
     ensures { IfOk result (IsPictureOf scene.now.map scene.now.view scene.now.scale asked.now.chosen.now asked.now.background) }
 {
+    Ok(
+        drawn(alloc, scene, near, asked)?
+            .into_labelled(scene)?
+            .into_picture(),
+    )
+}
+
+/// The chosen layers of a scene, drawn over the background, with the candidates for their labels.
+pub fn drawn<'a, N: Near>(
+    alloc: Global,
+    scene: &Scene<'a>,
+    near: &N,
+    asked: &PictureQuery<'_>,
+) -> Result<Drawing<'a>, AllocError>
+    requires near { N.map_of near.now ≡ scene.now.map }
+    requires layers { All (λ index. index < length scene.now.map.layers) asked.now.chosen.now }
+    ensures { IfOk result (λ drawing. IsDrawn scene.now (blank_of scene.now.view asked.now.background) drawing
+        (classified_list scene.now.scale scene.now.map asked.now.chosen.now)) }
+{
     let mut drawing = Drawing::new(alloc, scene, asked.background)?;
     let mut rest = asked.chosen;
     while let Some((index, after)) = rest.split_first() {
@@ -66,7 +85,7 @@ pub fn draw<N: Near>(
         draw_mention(&mut drawing, scene, near, &mention)?;
         rest = after;
     }
-    Ok(drawing.into_labelled(scene)?.into_picture())
+    Ok(drawing)
 }
 
 /// The picture that `draw` gives in the scene of a map in a view, at a scale.

@@ -3,6 +3,8 @@
 #![tactic(auto)]
 
 #[cfg(test)]
+mod blocks;
+#[cfg(test)]
 mod boxes_in_windows;
 #[cfg(test)]
 mod clipped_edges;
@@ -22,6 +24,8 @@ mod pixmaps;
 mod placed_boxes;
 #[cfg(test)]
 mod places;
+#[cfg(test)]
+mod round_lines;
 #[cfg(test)]
 mod shapes;
 #[cfg(test)]

@@ -91,7 +91,7 @@ fn thirds() -> View {
 }
 
 // The view of a name.
-fn view(name: &str) -> Option<View> {
+pub(crate) fn view(name: &str) -> Option<View> {
     match name {
         "square" => Some(square()),
         "oblong" => Some(oblong()),

@@ -4,27 +4,24 @@ use Rattle.std.proofs.lemmas.Int.{ints}
 use Rattle.std.proofs.lemmas.List.{take-append-drop}
 use Rattle.std.proofs.lemmas.List.Folds.{list_any-append}
 use Rattle.std.specs.List.{AllByRecursion, list_any}
-use lib.IntN.{ℤ, ◌-ℤ◌}
+use lib.IntN.{ℤ}
 use lib.Signed.{◌≤ℤ◌}
 use Rattle.geom.proofs.Products.{is_not_le, not_le_of}
 use Rattle.geom.specs.World.{Area, HasPlace, IsExtent, Place}
 use Rattle.mapdefs.proofs.BlockBoxes.{block-has}
 use Rattle.mapdefs.specs.Blocks.{AreBlockBoxes}
-use Rattle.viewport.specs.View.{ViewValue, device_point, height_of}
-use Rattle.viewport.proofs.Rising.{rising-law}
-use Rattle.vertices.proofs.Placing.{sixteenths-rising}
+use Rattle.viewport.specs.View.{ViewValue, device_point}
+use Rattle.vertices.proofs.Placing.{across-rising, down-falling}
 use Rattle.featureinfo.specs.Reach.{box_reaches, is_within, part_reaches}
 use Rattle.featureinfo.specs.declared.side.Side.{Side}
 use Rattle.featureinfo.specs.declared.side.Side.TheVariants.{Right, Left, Bottom, Top}
 
 -- further east is further right, and further south is further down
 eastward : (view : ViewValue) (a b : Place) → IsExtent view.area → a.x ≤ℤ b.x → (device_point view a).x ≤ℤ (device_point view b).x
-eastward view a b extent le = sixteenths-rising view.width (a.x -ℤ view.area.minx) (b.x -ℤ view.area.minx) (view.area.maxx -ℤ view.area.minx)
-    (omega (arith, ints, extent.columns)) (omega (arith, ints, le))
+eastward view a b extent le = across-rising view a.x b.x extent.columns le
 
 southward : (view : ViewValue) (a b : Place) → IsExtent view.area → b.y ≤ℤ a.y → (device_point view a).y ≤ℤ (device_point view b).y
-southward view a b extent le = sixteenths-rising view.height (view.area.maxy -ℤ height_of view.heights a.y) (view.area.maxy -ℤ height_of view.heights b.y) (view.area.maxy -ℤ view.area.miny)
-    (omega (arith, ints, extent.rows)) (omega (arith, ints, rising-law view.heights b.y a.y le))
+southward view a b extent le = down-falling view b.y a.y extent.rows le
 
 -- where a box lies beyond a side, each place in it does
 pub beyond : (view : ViewValue) (box : Area) (limit : ℤ) (side : Side) (place : Place) → IsExtent view.area → HasPlace box place → box_reaches view box limit side ≡ false →

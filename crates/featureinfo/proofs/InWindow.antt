@@ -7,15 +7,14 @@ use Rattle.std.specs.List.{Any}
 use lib.IntN.{pos, neg_ℤ, ◌-ℤ◌}
 use lib.Signed.{◌<ℤ◌, ◌≤ℤ◌}
 use Rattle.geom.proofs.Products.{le_of}
-use Rattle.geom.specs.Side.{IsPictureSide}
-use Rattle.geom.specs.World.{IsExtent, Place}
+use Rattle.geom.specs.World.{Place}
 use Rattle.mapdefs.specs.Class.{is_visible_layer}
 use Rattle.mapdefs.specs.Near.{AreCandidates, HasBoxIn, points_of}
 use Rattle.mapdefs.specs.declared.feature.FeatureFields.{FeatureFields}
 use Rattle.mapdefs.specs.declared.layer.Geometry.{Geometry}
 use Rattle.mapdefs.specs.declared.layer.LayerFields.{LayerFields}
 use Rattle.scene.specs.Scene.{SceneValue}
-use Rattle.viewport.specs.View.{ViewValue, device_point, window}
+use Rattle.viewport.specs.View.{IsView, ViewValue, device_point, window}
 use Rattle.mapdefs.proofs.Containing.{any-weaker}
 use Rattle.vertices.proofs.NearBoxes.{AreRound, box-in}
 use Rattle.featureinfo.specs.Hits.{AreFirstAmong, AreHits, IsHitAt, HasNearPixel}
@@ -51,19 +50,19 @@ module _ (view : ViewValue) (k : Geometry) (tolerance i j : ℕ) (feature : Feat
             (λ (q : Place) h. omega (arith, ints, le_of (pos (16 * n.top) -ℤ pos 8) (device_point view q).y h)) (vertex-on Top);
       }
 
-  pub in-window : IsExtent view.area → IsPictureSide view.width → IsPictureSide view.height → HasBoxIn (window view (tolerance + 1)) feature
-  in-window extent width height = box-in view (tolerance + 1) (points_of feature) extent width height round
+  pub in-window : IsView view → HasBoxIn (window view (tolerance + 1)) feature
+  in-window limits = box-in view (tolerance + 1) (points_of feature) limits round
 
 module _ (scene : SceneValue) (layer : LayerFields) (i j count : ℕ) where
   -- the first hits among the candidates are the first of all
-  pub first-of-all : (found hits : List ℕ) → IsExtent scene.view.area → IsPictureSide scene.view.width → IsPictureSide scene.view.height →
+  pub first-of-all : (found hits : List ℕ) → IsView scene.view →
       AreCandidates layer.features (window scene.view (layer.tolerance + 1)) found → AreFirstAmong (IsHitAt scene layer i j) count found hits → AreHits scene layer i j count hits
-  first-of-all found hits extent width height candidates first = record {
+  first-of-all found hits limits candidates first = record {
     rising = first.rising;
     each = λ k c. (first.each k c).1;
     few = first.few;
     others = λ k hit. let (feature, there, facts) = hit in
-        first.others k (candidates.each k feature there (in-window scene.view layer.kind layer.tolerance i j feature facts.near extent width height), hit);
+        first.others k (candidates.each k feature there (in-window scene.view layer.kind layer.tolerance i j feature facts.near limits), hit);
   }
 
   -- a layer that doesn't show has no hits

@@ -7,7 +7,7 @@ use Rattle.std.proofs.lemmas.List.Sums.{sum_by-append, sum_by-cons}
 use Rattle.std.specs.Int.{int_div_euclid}
 use Rattle.std.specs.List.{count_by}
 use Rattle.std.specs.Prelude.{int_le, nat_le}
-use lib.IntN.{ℤ, pos, negsuc, ◌-ℤ◌, ◌+ℤ◌}
+use lib.IntN.{ℤ, pos, negsuc, ◌+ℤ◌}
 use lib.Signed.{◌<ℤ◌, ◌≤ℤ◌}
 use Rattle.geom.specs.Device.{DevicePoint, centre, pixel_centre}
 use Rattle.geom.specs.Edge.{EdgeEnds, crosses_height, crosses_at_or_left, meets_at_or_left}
@@ -21,15 +21,14 @@ use Rattle.geom.proofs.Together.{odd-add}
 use Rattle.clip.specs.EdgeClass.{at_least_zero, first_row, rows_of}
 use Rattle.clip.specs.declared.rows.RowRange.{RowRange}
 use Rattle.clip.proofs.Rowed.{first_row-at_most}
-use Rattle.viewport.specs.View.{ViewValue, device_point, height_of}
-use Rattle.viewport.proofs.Rising.{rising-law}
+use Rattle.viewport.specs.View.{ViewValue, device_point}
 use Rattle.scanfill.specs.Flips.{is_pixel_flipped, flips_by}
 use Rattle.fills.specs.declared.run.Run.{Run}
 use Rattle.canvas.specs.Latitudes.{row_of}
 use Rattle.fills.specs.Flipped.{Adds, AddsEdge, IsRun, StandFor}
 use Rattle.vertices.specs.Chain.{chain_edges, chain_end}
 use Rattle.vertices.proofs.Chains.{odd-one}
-use Rattle.vertices.proofs.Placing.{sixteenths-rising}
+use Rattle.vertices.proofs.Placing.{down-falling}
 
 -- an edge whose ends are of one row crosses no row
 same-tests : (s t : Bool) → s ≡ t → (if s then not t else t) ≡ false
@@ -63,9 +62,8 @@ first_row-rising y z h le =
 pub row-between : (view : ViewValue) (low high latitude : ℤ) (row : ℕ) → view.area.miny <ℤ view.area.maxy → row_of view low ≡ row → row_of view high ≡ row →
     low ≤ℤ latitude → latitude ≤ℤ high → row_of view latitude ≡ row
 row-between view low high latitude row some e f least most =
-    let whole = view.area.maxy -ℤ view.area.miny in
-    let up : row_of view high ≤ row_of view latitude = first_row-rising _ _ view.height (sixteenths-rising view.height (view.area.maxy -ℤ height_of view.heights high) (view.area.maxy -ℤ height_of view.heights latitude) whole (omega (arith, ints)) (omega (arith, ints, rising-law view.heights latitude high most))) in
-    let down : row_of view latitude ≤ row_of view low = first_row-rising _ _ view.height (sixteenths-rising view.height (view.area.maxy -ℤ height_of view.heights latitude) (view.area.maxy -ℤ height_of view.heights low) whole (omega (arith, ints)) (omega (arith, ints, rising-law view.heights low latitude least))) in
+    let up : row_of view high ≤ row_of view latitude = first_row-rising _ _ view.height (down-falling view latitude high some most) in
+    let down : row_of view latitude ≤ row_of view low = first_row-rising _ _ view.height (down-falling view low latitude some least) in
     omega (arith, e, f, up, down)
 
 -- nothing more is the same

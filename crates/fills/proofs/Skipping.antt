@@ -16,14 +16,14 @@ use Rattle.geom.proofs.Quotients.{at_most-by_product, quotient_parts}
 use Rattle.std.specs.Int.{int_div_euclid}
 use Rattle.clip.proofs.Rowed.{first_row-at_most}
 use Rattle.clip.proofs.Sides.{right-crosses}
-use Rattle.viewport.specs.View.{ViewValue, device_point, sixteenths}
+use Rattle.viewport.specs.View.{IsView, ViewValue, across_of, device_point, sixteenths}
 use Rattle.scanfill.specs.Flips.{is_pixel_flipped}
 use Rattle.fills.specs.declared.run.Run.{Run}
 use Rattle.canvas.specs.Latitudes.{row_of}
 use Rattle.fills.specs.Flipped.{AddsEdge, IsRun, AddsChain, ChainsInAColumnCoverLikeTheirChord, column_of, is_in_column, is_left, is_right}
 use Rattle.vertices.specs.Chain.{HasChain, chain_edges, chain_end}
 use Rattle.vertices.proofs.Chains.{beside, end-has, high-has, left, low-has, right}
-use Rattle.vertices.proofs.Placing.{end-placed, sixteenths-rising}
+use Rattle.vertices.proofs.Placing.{across-rising, end-placed}
 use Rattle.fills.proofs.Flipping.{one-false, row-between}
 
 -- what follows for the device point of each place of a box holds for all of a block
@@ -53,10 +53,6 @@ in-row view box from rest flips rows all same = adds-nothing view flips from res
     sym (first_row-at_most (device_point view place).y view.height j below) ∙ ap (λ n. nat_le n j) of_row)
     (from ∷ rest) all))
 
--- how far a longitude is from the left
-abbrev across : ViewValue → ℤ → ℤ
-across view longitude = sixteenths view.width (longitude -ℤ view.area.minx) (view.area.maxx -ℤ view.area.minx)
-
 -- the whole of a side has all its sixteenths, and none of it has none
 sixteenths-whole : (pixels : ℕ) (whole : ℤ) → pos 0 <ℤ whole → pos (16 * pixels) ≤ℤ sixteenths pixels whole whole
 unfolding sixteenths
@@ -71,31 +67,40 @@ sixteenths-none pixels whole some =
     let none : times *ℤ pos 0 ≡ pos 0 = omega (arith, ints) in
     at_most-by_product (int_div_euclid (times *ℤ pos 0) whole) (pos 0) whole some (omega (arith, ints, (quotient_parts (times *ℤ pos 0) whole some).0, none, some))
 
--- a block right of the view is crossed left of none of its pixel centres
-pub right-of : (view : ViewValue) (box : Area) (from : Place) (rest : List Place) (flips : List ℕ) → IsExtent view.area → HasChain box from rest →
-    is_right view box ≡ true → AddsChain view flips from rest flips
-right-of view box from rest flips extent all is = adds-nothing view flips from rest (λ i j column below.
-    let p = pixel_centre (pos i) (pos j) in
+-- the right side of the whole picture is no further left than that of the canvas, and its left side no further right
+east-side : (view : ViewValue) → IsView view → pos (16 * view.width) ≤ℤ across_of view view.area.maxx
+east-side view is =
     let whole = view.area.maxx -ℤ view.area.minx in
+    omega (arith, ints, sixteenths-whole view.columns whole (omega (arith, ints, is.area.columns)), is.across.within)
+
+west-side : (view : ViewValue) → IsView view → across_of view view.area.minx ≤ℤ pos 0
+west-side view is =
+    let none : view.area.minx -ℤ view.area.minx ≡ pos 0 = omega (arith, ints) in
+    let begin : sixteenths view.columns (view.area.minx -ℤ view.area.minx) (view.area.maxx -ℤ view.area.minx) ≤ℤ pos 0 =
+    rw none (sixteenths-none view.columns (view.area.maxx -ℤ view.area.minx) (omega (arith, ints, is.area.columns))) in
+    omega (arith, ints, begin)
+
+-- a block right of the whole picture is crossed left of none of the canvas' pixel centres
+pub right-of : (view : ViewValue) (box : Area) (from : Place) (rest : List Place) (flips : List ℕ) → IsView view → HasChain box from rest →
+    is_right view box ≡ true → AddsChain view flips from rest flips
+right-of view box from rest flips limits all is = adds-nothing view flips from rest (λ i j column below.
+    let p = pixel_centre (pos i) (pos j) in
     right p (device_point view from) (map (device_point view) rest)
     (all-placed view box (λ v. p.x <ℤ v.x)
     (λ place inside.
-    let end : pos (16 * view.width) ≤ℤ sixteenths view.width whole whole = sixteenths-whole view.width whole (omega (arith, ints, extent.columns)) in
-    let more : sixteenths view.width whole whole ≤ℤ across view place.x = sixteenths-rising view.width whole (place.x -ℤ view.area.minx) whole (omega (arith, ints, extent.columns)) (omega (arith, ints, inside.west, is)) in
-    omega (arith, ints, end, more, column))
+    let more = across-rising view view.area.maxx place.x limits.area.columns (omega (arith, ints, inside.west, is)) in
+    omega (arith, ints, east-side view limits, more, column))
     (from ∷ rest) all))
 
--- a block left of the view counts like its chord
-pub by-chord : (view : ViewValue) (box : Area) (from : Place) (rest : List Place) (old new : List ℕ) → IsExtent view.area → HasChain box from rest →
+-- a block left of the whole picture counts like its chord
+pub by-chord : (view : ViewValue) (box : Area) (from : Place) (rest : List Place) (old new : List ℕ) → IsView view → HasChain box from rest →
     is_left view box ≡ true → AddsEdge view old from (chain_end from rest) new → AddsChain view old from rest new
-by-chord view box from rest old new extent all is adds = record {
+by-chord view box from rest old new limits all is adds = record {
   same = λ i j column below.
       let p = pixel_centre (pos i) (pos j) in
-      let whole = view.area.maxx -ℤ view.area.minx in
-      let begin : sixteenths view.width (pos 0) whole ≤ℤ pos 0 = sixteenths-none view.width whole (omega (arith, ints, extent.columns)) in
       let inside-left : (place : Place) → HasPlace box place → (device_point view place).x ≤ℤ p.x = λ place inside.
-      let less : across view place.x ≤ℤ sixteenths view.width (pos 0) whole = sixteenths-rising view.width (place.x -ℤ view.area.minx) (pos 0) whole (omega (arith, ints, extent.columns)) (omega (arith, ints, inside.east, le_of box.maxx view.area.minx is)) in
-      omega (arith, ints, less, begin) in
+      let less = across-rising view place.x view.area.minx limits.area.columns (omega (arith, ints, inside.east, le_of box.maxx view.area.minx is)) in
+      omega (arith, ints, less, west-side view limits) in
       let covered : is_covered (chain_edges (device_point view from) (map (device_point view) rest)) p ≡ crosses_at_or_left p (edge_between (device_point view from, device_point view (chain_end from rest))) =
       left p (device_point view from) (map (device_point view) rest) (all-placed view box (λ v. v.x ≤ℤ p.x) inside-left (from ∷ rest) all)
       ∙ ap (λ (end : DevicePoint). crosses_at_or_left p (edge_between (device_point view from, end))) (end-placed view from rest) in
@@ -113,27 +118,24 @@ column-law view box from rest i j extent all same column =
     point : Place → DevicePoint
     point = device_point view
 
-    whole : ℤ
-    whole = view.area.maxx -ℤ view.area.minx
-
     chain-chord : Type 0
     chain-chord = is_covered (chain_edges (point from) (map point rest)) p ≡ crosses_at_or_left p (edge_between (point from, point (chain_end from rest)))
 
-    rising : (a b : ℤ) → a ≤ℤ b → across view a ≤ℤ across view b
-    rising a b le = sixteenths-rising view.width (a -ℤ view.area.minx) (b -ℤ view.area.minx) whole (omega (arith, ints, extent.columns)) (omega (arith, ints, le))
+    rising : (a b : ℤ) → a ≤ℤ b → across_of view a ≤ℤ across_of view b
+    rising a b le = across-rising view a b extent.columns le
 
     go : (t : Bool) → nat_le (column_of view box.minx) i ≡ t → chain-chord
     go true e =
         let one : column_of view box.minx ≡ column_of view box.maxx = eqb-true (column_of view box.minx) (column_of view box.maxx) same in
-        let east : int_le (across view box.maxx) (centre (pos i)) ≡ true = sym (first_row-at_most (across view box.maxx) view.width i column) ∙ (ap (λ n. nat_le n i) (sym one) ∙ e) in
-        let reached : across view box.maxx ≤ℤ p.x = le_of (across view box.maxx) (centre (pos i)) east in
+        let east : int_le (across_of view box.maxx) (centre (pos i)) ≡ true = sym (first_row-at_most (across_of view box.maxx) view.width i column) ∙ (ap (λ n. nat_le n i) (sym one) ∙ e) in
+        let reached : across_of view box.maxx ≤ℤ p.x = le_of (across_of view box.maxx) (centre (pos i)) east in
         let inside-left : (place : Place) → HasPlace box place → (point place).x ≤ℤ p.x = λ place inside.
         omega (arith, ints, reached, rising place.x box.maxx inside.east) in
         left p (point from) (map point rest) (all-placed view box (λ v. v.x ≤ℤ p.x) inside-left (from ∷ rest) all)
         ∙ ap (λ (end : DevicePoint). crosses_at_or_left p (edge_between (point from, end))) (end-placed view from rest)
     go false e =
-        let west : int_le (across view box.minx) (centre (pos i)) ≡ false = sym (first_row-at_most (across view box.minx) view.width i column) ∙ e in
-        let before : p.x <ℤ across view box.minx = not_le_of (across view box.minx) (centre (pos i)) west in
+        let west : int_le (across_of view box.minx) (centre (pos i)) ≡ false = sym (first_row-at_most (across_of view box.minx) view.width i column) ∙ e in
+        let before : p.x <ℤ across_of view box.minx = not_le_of (across_of view box.minx) (centre (pos i)) west in
         let inside-right : (place : Place) → HasPlace box place → p.x <ℤ (point place).x = λ place inside.
         omega (arith, ints, before, rising box.minx place.x inside.west) in
         let last : HasPlace box (chain_end from rest) = end-has (HasPlace box) from rest all in

@@ -1,5 +1,5 @@
 -- Flips that stand for the edges of rings in a picture (docs/DRAWING.md, "When a pixel belongs to a polygon").
-use Rattle.std.specs.Prelude.{◌≡◌, ℕ, ◌<◌, ℤ, pos, ◌-ℤ◌, ◌≤ℤ◌, ◌<ℤ◌, ◌==◌, List, Bool, true, int_le, int_lt, map}
+use Rattle.std.specs.Prelude.{◌≡◌, ℕ, ◌<◌, ℤ, pos, ◌≤ℤ◌, ◌<ℤ◌, ◌==◌, List, Bool, true, int_le, int_lt, map}
 use Rattle.geom.specs.Device.{pixel_centre}
 use Rattle.geom.specs.Edge.{EdgeEnds, crosses_at_or_left}
 use Rattle.geom.specs.EvenOdd.{edge_between, is_covered}
@@ -7,7 +7,7 @@ use Rattle.geom.specs.Laws.{is_one_of}
 use Rattle.geom.specs.World.{Place, Area, IsExtent}
 use Rattle.clip.specs.EdgeClass.{first_row}
 use Rattle.scanfill.specs.Flips.{is_pixel_flipped}
-use Rattle.viewport.specs.View.{ViewValue, device_point, sixteenths}
+use Rattle.viewport.specs.View.{ViewValue, across_of, device_point}
 use Rattle.vertices.specs.Chain.{HasChain, chain_edges, chain_end}
 use Rattle.canvas.specs.Latitudes.{row_of}
 use Rattle.fills.specs.declared.run.Corner.{Corner}
@@ -26,7 +26,7 @@ pub record IsCorner (view : ViewValue) (corner : Corner) : Type 0 where
   pub at : corner.at ≡ device_point view corner.from
   pub row : corner.row ≡ first_row corner.at.y view.height
 
--- by the flips those pixels of the picture lie inside that the edges cover
+-- by the flips those pixels of the canvas lie inside that the edges cover
 pub record StandFor (view : ViewValue) (flips : List ℕ) (whole : List EdgeEnds) : Type 0 where
   pub same : (i j : ℕ) → i < view.width → j < view.height → is_pixel_flipped flips i j ≡ is_covered whole (pixel_centre (pos i) (pos j))
 
@@ -41,19 +41,19 @@ AddsEdge view old from to new = (i j : ℕ) → i < view.width → j < view.heig
     is_pixel_flipped new i j ≡
     is_one_of (is_pixel_flipped old i j) (crosses_at_or_left (pixel_centre (pos i) (pos j)) (edge_between (device_point view from, device_point view to)))
 
--- a box lies right of the view
+-- a box lies right of all that the whole picture shows
 abbrev pub is_right : ViewValue → Area → Bool
 is_right view box = int_lt view.area.maxx box.minx
 
--- a box lies left of the view, or reaches to its left side
+-- a box lies left of that, or reaches to its left side
 abbrev pub is_left : ViewValue → Area → Bool
 is_left view box = int_le box.maxx view.area.minx
 
--- the first column whose pixel centres lie at a longitude or right of it, or the picture's width: counted from the left as rows are from the top
+-- the first column whose pixel centres lie at a longitude or right of it, or the canvas' width: counted from the left as rows are from the top
 abbrev pub column_of : ViewValue → ℤ → ℕ
-column_of view longitude = first_row (sixteenths view.width (longitude -ℤ view.area.minx) (view.area.maxx -ℤ view.area.minx)) view.width
+column_of view longitude = first_row (across_of view longitude) view.width
 
--- no pixel centre of the picture lies between the west side of a box and its east side
+-- no pixel centre of the canvas lies between the west side of a box and its east side
 abbrev pub is_in_column : ViewValue → Area → Bool
 is_in_column view box = column_of view box.minx == column_of view box.maxx
 

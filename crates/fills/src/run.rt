@@ -1,6 +1,7 @@
 ghost use Rattle.std.specs.Prelude.{◌≡◌, ◌&&◌, int_le};
 ghost use Rattle.geom.specs.World.{IsExtent};
 ghost use Rattle.clip.specs.EdgeClass.{first_row};
+ghost use Rattle.viewport.specs.View.{IsView};
 ghost use Rattle.fills.specs.Flipped.{column_of, is_in_column, is_left, is_right, IsCorner, IsRun};
 ghost use Rattle.canvas.specs.Latitudes.{row_of};
 
@@ -31,7 +32,7 @@ impl Run {
 }
 
 /// A vertex of a ring: its place, where it lies on the picture, and the first row whose pixel centres lie at it or below
-/// it, or the picture's height.
+/// it, or the canvas's height.
 #[derive(Clone, Copy)]
 pub struct Corner {
     pub from: World,
@@ -54,7 +55,7 @@ impl<'a> Model for RowFinder<'a> {
 
     ghost view = { λ r. r.projection.now };
 
-    ghost invariant = { λ r. AreBands r.projection.now.heights r.projection.now.area.miny r.projection.now.area.maxy r.projection.now.height r.bands.now };
+    ghost invariant = { λ r. AreBands r.projection.now r.bands.now };
 }
 
 impl<'a> RowFinder<'a> {
@@ -75,7 +76,7 @@ impl<'a> RowFinder<'a> {
         self.projection
     }
 
-    /// The first row whose pixel centres lie at that latitude or below it, or the picture's height.
+    /// The first row whose pixel centres lie at that latitude or below it, or the canvas's height.
     pub fn row_of(&self, latitude: Coordinate) -> u16
         ensures { result ≡ row_of self.now latitude }
     {
@@ -122,23 +123,25 @@ impl<'a> RowFinder<'a> {
         }
     }
 
-    /// Whether a box lies right of the picture. A chain of vertices in it adds no flips.
+    /// Whether a box lies right of the whole picture. A chain of vertices in it adds no flips.
     pub fn is_right(&self, area: BlockBox) -> bool
         ensures value { result ≡ is_right self.now area }
-        ensures limits { IsExtent self.now.area }
+        ensures limits { IsView self.now }
     {
+        let _columns = self.projection.columns();
         self.projection.area().maxx().millionths() < area.minx().get().millionths()
     }
 
-    /// Whether a box lies left of the picture. A chain of vertices in it adds the flips of its chord.
+    /// Whether a box lies left of the whole picture. A chain of vertices in it adds the flips of its chord.
     pub fn is_left(&self, area: BlockBox) -> bool
         ensures value { result ≡ is_left self.now area }
-        ensures limits { IsExtent self.now.area }
+        ensures limits { IsView self.now }
     {
+        let _columns = self.projection.columns();
         area.maxx().get().millionths() <= self.projection.area().minx().millionths()
     }
 
-    /// Whether no pixel centre of the picture lies between the west side of a box and its east side. A chain of vertices
+    /// Whether no pixel centre of the canvas lies between the west side of a box and its east side. A chain of vertices
     /// in it adds the flips of its chord.
     pub fn is_in_column(&self, area: BlockBox) -> bool
         ensures value { result ≡ is_in_column self.now area }
@@ -148,7 +151,7 @@ impl<'a> RowFinder<'a> {
         self.column_of(area.minx()) == self.column_of(area.maxx())
     }
 
-    // The first column whose pixel centres lie at that longitude or right of it, or the picture's width.
+    // The first column whose pixel centres lie at that longitude or right of it, or the canvas's width.
     fn column_of(&self, longitude: Coordinate) -> u16
         ensures { result ≡ column_of self.now longitude }
     {

@@ -14,12 +14,12 @@ use Rattle.geom.specs.Device.{PixelValue, pixel_of}
 use Rattle.geom.specs.Range.{IsBelow}
 use Rattle.geom.specs.World.{Area, IsCoordinate, IsExtent, Place}
 use Rattle.scanfill.proofs.Words.{product-below, word}
-use Rattle.viewport.specs.View.{ViewValue, device_point, height_of, sixteenths, steepest}
+use Rattle.viewport.specs.View.{ViewValue, device_point, down_of, height_of, sixteenths, steepest}
 use Rattle.viewport.specs.declared.heights.Heights.{Heights}
 use Rattle.viewport.proofs.Rising.{rising-law, slowly-law}
 use Rattle.inking.specs.Grain.{AreOfPixel, AreOfRow, IsGrain, row_at}
 use Rattle.inking.specs.Stroked.{has_place}
-use Rattle.vertices.proofs.Placing.{sixteenths-rising}
+use Rattle.vertices.proofs.Placing.{down-falling}
 use Rattle.inking.proofs.Quieting.{LiesIn, lies-in}
 
 -- so many grains before a part its share is less by no more sixteenths than that
@@ -60,6 +60,23 @@ same-pixel-of pixels part other whole grain n some is small at least most =
     let high : e ≤ℤ (q *ℤ pos 16 +ℤ pos 15) =
     at_most-by_product e (q *ℤ pos 16 +ℤ pos 15) whole some (omega (arith, ints, first.1, second.0, past, split, rest, add-mul (q *ℤ pos 16) (pos 15) whole)) in
     quotient_is e (pos 16) q (omega (arith, ints)) low (omega (arith, ints, high))
+
+-- also where both are counted from a column further right
+pub moved-pixel-of : (pixels first : ℕ) (part other whole grain : ℤ) (n : ℕ) → pos 0 <ℤ whole → IsGrain pixels whole grain → n ≤ 15 →
+    sixteenths pixels part whole -ℤ pos (16 * first) ≡ int_div_euclid (sixteenths pixels part whole -ℤ pos (16 * first)) (pos 16) *ℤ pos 16 +ℤ pos n →
+    (part -ℤ pos n *ℤ grain) ≤ℤ other → other ≤ℤ (part +ℤ pos (15 - n) *ℤ grain) →
+    int_div_euclid (sixteenths pixels other whole -ℤ pos (16 * first)) (pos 16) ≡ int_div_euclid (sixteenths pixels part whole -ℤ pos (16 * first)) (pos 16)
+moved-pixel-of pixels first part other whole grain n some is small at least most =
+    let s = sixteenths pixels part whole in
+    let o = sixteenths pixels other whole in
+    let here : s ≡ int_div_euclid s (pos 16) *ℤ pos 16 +ℤ pos n = omega (arith, ints, pixels-moved s first, at) in
+    let same = same-pixel-of pixels part other whole grain n some is small here least most in
+    omega (arith, ints, pixels-moved s first, pixels-moved o first, same)
+  where
+    pixels-moved : (z : ℤ) (first : ℕ) → int_div_euclid (z -ℤ pos (16 * first)) (pos 16) ≡ int_div_euclid z (pos 16) -ℤ pos first
+    pixels-moved z first =
+        let parts = quotient_parts z (pos 16) (omega (arith, ints)) in
+        quotient_is (z -ℤ pos (16 * first)) (pos 16) (int_div_euclid z (pos 16) -ℤ pos first) (omega (arith, ints)) (omega (arith, ints, parts.0)) (omega (arith, ints, parts.1))
 
 -- what i64 holds of a coordinate, and of one that is moved by so many grains
 pub coordinate-held : (a z : ℤ) → a ≡ z → IsCoordinate z → IsBelow (2 ^ 31) (to_z w64 (of_z w64 a))
@@ -131,29 +148,25 @@ times-above h a b n down least most =
 
 -- latitudes of so many grains round one lie in its row, if the grains make no more of height than a grain where heights rise the most
 pub flat-row : (view : ViewValue) (grain down latitude : ℤ) (top : ℕ) → IsExtent view.area →
-    IsGrain view.height (view.area.maxy -ℤ view.area.miny) grain → pos 0 ≤ℤ down → (pos (steepest view.heights) *ℤ down) ≤ℤ grain → top ≤ 15 →
-    sixteenths view.height (view.area.maxy -ℤ height_of view.heights latitude) (view.area.maxy -ℤ view.area.miny) ≡ row_at view latitude *ℤ pos 16 +ℤ pos top →
+    IsGrain view.rows (view.area.maxy -ℤ view.area.miny) grain → pos 0 ≤ℤ down → (pos (steepest view.heights) *ℤ down) ≤ℤ grain → top ≤ 15 →
+    down_of view latitude ≡ row_at view latitude *ℤ pos 16 +ℤ pos top →
     AreOfRow view (latitude -ℤ pos (15 - top) *ℤ down) (latitude +ℤ pos top *ℤ down) (row_at view latitude)
 flat-row view grain down latitude top extent is least fits few at other south north =
     let area = view.area in
     let h = view.heights in
     let times = pos (steepest h) in
-    let flat = flat-grain view.height (area.maxy -ℤ area.miny) grain (times *ℤ down) is (product_nonneg times down (omega (arith, ints)) least) fits in
+    let flat = flat-grain view.rows (area.maxy -ℤ area.miny) grain (times *ℤ down) is (product_nonneg times down (omega (arith, ints)) least) fits in
     let above = times-above h latitude other top down least north in
     let below = times-above h other latitude (15 - top) down least (omega (arith, ints, south)) in
-    same-pixel-of view.height (area.maxy -ℤ height_of h latitude) (area.maxy -ℤ height_of h other) (area.maxy -ℤ area.miny) (times *ℤ down) top (omega (arith, ints, extent.rows)) flat few at
+    moved-pixel-of view.rows view.top (area.maxy -ℤ height_of h latitude) (area.maxy -ℤ height_of h other) (area.maxy -ℤ area.miny) (times *ℤ down) top (omega (arith, ints, extent.rows)) flat few at
     (omega (arith, ints, above)) (omega (arith, ints, below))
 
 -- what lies further north lies in no lower row
 row-rising : (view : ViewValue) (a b : ℤ) → IsExtent view.area → a ≤ℤ b → row_at view b ≤ℤ row_at view a
 row-rising view a b extent le =
-    let area = view.area in
-    let up = rising-law view.heights a b le in
-    let part = λ (latitude : ℤ). sixteenths view.height (area.maxy -ℤ height_of view.heights latitude) (area.maxy -ℤ area.miny) in
-    let more : part b ≤ℤ part a =
-    sixteenths-rising view.height (area.maxy -ℤ height_of view.heights b) (area.maxy -ℤ height_of view.heights a) (area.maxy -ℤ area.miny) (omega (arith, ints, extent.rows)) (omega (arith, ints, up)) in
-    let one = quotient_parts (part a) (pos 16) (omega (arith, ints)) in
-    let other = quotient_parts (part b) (pos 16) (omega (arith, ints)) in
+    let more = down-falling view a b extent.rows le in
+    let one = quotient_parts (down_of view a) (pos 16) (omega (arith, ints)) in
+    let other = quotient_parts (down_of view b) (pos 16) (omega (arith, ints)) in
     at_most-by_product (row_at view b) (row_at view a) (pos 16) (omega (arith, ints)) (omega (arith, ints, one.1, other.0, more))
 
 -- latitudes between two of one row lie in it
@@ -161,14 +174,14 @@ pub tested-row : (view : ViewValue) (south north row : ℤ) → IsExtent view.ar
 tested-row view south north row extent low high latitude least most =
     omega (arith, ints, low, high, row-rising view south latitude extent least, row-rising view latitude north extent most)
 
-pub around-pixel : (view : ViewValue) (across down : ℤ) (place : Place) (left top : ℕ) → IsExtent view.area → IsGrain view.width (view.area.maxx -ℤ view.area.minx) across → left ≤ 15 →
+pub around-pixel : (view : ViewValue) (across down : ℤ) (place : Place) (left top : ℕ) → IsExtent view.area → IsGrain view.columns (view.area.maxx -ℤ view.area.minx) across → left ≤ 15 →
     (device_point view place).x ≡ int_div_euclid (device_point view place).x (pos 16) *ℤ pos 16 +ℤ pos left →
     AreOfRow view (place.y -ℤ pos (15 - top) *ℤ down) (place.y +ℤ pos top *ℤ down) (pixel_of (device_point view place)).j →
     AreOfPixel view (grains_around across down place left top) (pixel_of (device_point view place))
 around-pixel view across down place left top extent is narrow x rows p has =
     let area = view.area in
     let in_box = lies-in (grains_around across down place left top) p has in
-    let column = same-pixel-of view.width (place.x -ℤ area.minx) (p.x -ℤ area.minx) (area.maxx -ℤ area.minx) across left (omega (arith, ints, extent.columns)) is narrow x
+    let column = moved-pixel-of view.columns view.left (place.x -ℤ area.minx) (p.x -ℤ area.minx) (area.maxx -ℤ area.minx) across left (omega (arith, ints, extent.columns)) is narrow x
     (omega (arith, ints, in_box.west)) (omega (arith, ints, in_box.east)) in
     let here = pixel_of (device_point view p) in
     let there = pixel_of (device_point view place) in

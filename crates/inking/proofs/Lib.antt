@@ -1,5 +1,7 @@
 pub mod Graining
 pub mod Quieting
+pub mod RoundFilling
+pub mod RoundStroking
 pub mod Stripping
 pub mod StrokeBlocks
 pub mod Stroking

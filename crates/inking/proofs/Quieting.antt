@@ -8,17 +8,16 @@ use lib.Signed.{◌<ℤ◌, ◌≤ℤ◌}
 use Rattle.geom.proofs.Products.{is_le, le_of}
 use Rattle.geom.specs.Device.{DevicePoint, PixelValue, pixel_centre, pixel_of}
 use Rattle.geom.specs.EvenOdd.{edge_between}
-use Rattle.geom.specs.Side.{IsPictureSide}
-use Rattle.geom.specs.World.{Area, IsExtent, Place}
+use Rattle.geom.specs.World.{Area, Place}
 use Rattle.strokes.specs.Segment.{covers_segment}
 use Rattle.strokes.specs.Short.{are_close, are_neighbours}
 use Rattle.strokes.specs.Square.{covers_square}
 use Rattle.strokes.proofs.Short.{short-law}
 use Rattle.strokes.proofs.Sides.{above-both, below-both, left-of-both, right-of-both}
-use Rattle.viewport.specs.View.{ViewValue, device_point, height_of, sixteenths, window}
+use Rattle.viewport.specs.View.{IsView, ViewValue, across_of, device_point, down_of, window}
 use Rattle.inking.specs.Grain.{AreOfPixel}
 use Rattle.inking.specs.Stroked.{IsPen, IsQuiet, PenValue, has_place, segment_covers, step_covers, vertex_covers}
-use Rattle.vertices.proofs.NearBoxes.{at-window, not-past, not-short, under-window}
+use Rattle.vertices.proofs.NearBoxes.{at-east, at-north, at-south, at-west}
 use Rattle.vertices.proofs.NearShapes.{square-by}
 
 -- what isn't true is false
@@ -26,45 +25,24 @@ not-true : (t : Bool) → (t ≡ true → ⊥) → t ≡ false
 not-true true f = absurd (f refl)
 not-true false f = refl
 
--- on one axis: what lies before the window, or past it, lies before the picture by more than the margin, or past it
-before-axis : (margin pixels : ℕ) (part whole : ℤ) → 0 < pixels → pos 0 <ℤ whole → (neg_ℤ (pos (16 * margin)) ≤ℤ sixteenths pixels part whole → ⊥) →
-    sixteenths pixels part whole <ℤ neg_ℤ (pos (16 * margin))
-before-axis margin pixels part whole some rises h = by_lt_z (sixteenths pixels part whole) (neg_ℤ (pos (16 * margin))) (λ lt. lt) (λ ge. absurd (h ge))
+-- a place west, east, south or north of the window lies beside the canvas by more than the margin
+pub off-west : (view : ViewValue) (w : ℕ) (a : Place) → IsView view → a.x <ℤ (window view w).minx → (device_point view a).x <ℤ neg_ℤ (pos (16 * w))
+off-west view w a is h =
+    by_lt_z (across_of view a.x) (neg_ℤ (pos (16 * w))) (λ lt. lt) (λ ge. absurd (omega (arith, ints, h, at-west view w a.x is ge)))
 
-past-axis : (margin pixels : ℕ) (part whole : ℤ) → 0 < pixels → pos 0 <ℤ whole → (sixteenths pixels part whole <ℤ pos (16 * (pixels + margin)) → ⊥) →
-    pos (16 * (pixels + margin)) ≤ℤ sixteenths pixels part whole
-past-axis margin pixels part whole some rises h = by_lt_z (sixteenths pixels part whole) (pos (16 * (pixels + margin))) (λ lt. absurd (h lt)) (λ ge. ge)
+pub off-east : (view : ViewValue) (w : ℕ) (a : Place) → IsView view → (window view w).maxx <ℤ a.x → pos (16 * (view.width + w)) ≤ℤ (device_point view a).x
+off-east view w a is h =
+    by_lt_z (across_of view a.x) (pos (16 * (view.width + w))) (λ lt. absurd (omega (arith, ints, h, at-east view w a.x is lt))) (λ ge. ge)
 
--- a place west, east, south or north of the window
-pub off-west : (view : ViewValue) (w : ℕ) (a : Place) → IsExtent view.area → IsPictureSide view.width → a.x <ℤ (window view w).minx →
-    (device_point view a).x <ℤ neg_ℤ (pos (16 * w))
-off-west view w a area side h =
-    let whole = view.area.maxx -ℤ view.area.minx in
-    before-axis w view.width (a.x -ℤ view.area.minx) whole side.some (omega (arith, ints, area.columns))
-    (λ ge. omega (arith, ints, h, not-short w view.width (a.x -ℤ view.area.minx) whole side.some (omega (arith, ints, area.columns)) ge))
+pub off-south : (view : ViewValue) (w : ℕ) (a : Place) → IsView view → a.y <ℤ (window view w).miny → pos (16 * (view.height + w)) ≤ℤ (device_point view a).y
+off-south view w a is h =
+    by_lt_z (down_of view a.y) (pos (16 * (view.height + w))) (λ lt. absurd (omega (arith, ints, h, at-south view w a.y is lt))) (λ ge. ge)
 
-pub off-east : (view : ViewValue) (w : ℕ) (a : Place) → IsExtent view.area → IsPictureSide view.width → (window view w).maxx <ℤ a.x →
-    pos (16 * (view.width + w)) ≤ℤ (device_point view a).x
-off-east view w a area side h =
-    let whole = view.area.maxx -ℤ view.area.minx in
-    past-axis w view.width (a.x -ℤ view.area.minx) whole side.some (omega (arith, ints, area.columns))
-    (λ lt. omega (arith, ints, h, not-past w view.width (a.x -ℤ view.area.minx) whole side.some (omega (arith, ints, area.columns)) lt))
+pub off-north : (view : ViewValue) (w : ℕ) (a : Place) → IsView view → (window view w).maxy <ℤ a.y → (device_point view a).y <ℤ neg_ℤ (pos (16 * w))
+off-north view w a is h =
+    by_lt_z (down_of view a.y) (neg_ℤ (pos (16 * w))) (λ lt. lt) (λ ge. absurd (omega (arith, ints, h, at-north view w a.y is ge)))
 
-pub off-south : (view : ViewValue) (w : ℕ) (a : Place) → IsExtent view.area → IsPictureSide view.height → a.y <ℤ (window view w).miny →
-    pos (16 * (view.height + w)) ≤ℤ (device_point view a).y
-off-south view w a area side h =
-    let whole = view.area.maxy -ℤ view.area.miny in
-    past-axis w view.height (view.area.maxy -ℤ height_of view.heights a.y) whole side.some (omega (arith, ints, area.rows))
-    (λ lt. omega (arith, ints, h, at-window view w a.y area side.some lt))
-
-pub off-north : (view : ViewValue) (w : ℕ) (a : Place) → IsExtent view.area → IsPictureSide view.height → (window view w).maxy <ℤ a.y →
-    (device_point view a).y <ℤ neg_ℤ (pos (16 * w))
-off-north view w a area side h =
-    let whole = view.area.maxy -ℤ view.area.miny in
-    before-axis w view.height (view.area.maxy -ℤ height_of view.heights a.y) whole side.some (omega (arith, ints, area.rows))
-    (λ ge. omega (arith, ints, h, under-window view w a.y area side.some ge))
-
--- a step beside the picture covers no pixel of it
+-- a step beside the canvas covers no pixel of it
 step-west : (view : ViewValue) (w : ℕ) (a b : DevicePoint) (i j : ℕ) → i < view.width → j < view.height → a.x <ℤ neg_ℤ (pos (16 * w)) → b.x <ℤ neg_ℤ (pos (16 * w)) →
     step_covers w a b i j ≡ false
 step-west view w a b i j column row p q = or_from (covers_segment w (edge_between (a, b)) (pixel_centre (pos i) (pos j))) (vertex_covers w b i j)
@@ -113,29 +91,29 @@ pub quiet-west : (pen : PenValue) (win box : Area) (place : Place) → IsPen pen
 quiet-west pen win box place is h a b p q i j column row covers =
     let west = rw is.window_is at h in
     absurd (false≢true (sym (step-west pen.view pen.width (device_point pen.view a) (device_point pen.view b) i j column row
-    (off-west pen.view pen.width a is.area is.columns (omega (arith, ints, west, (lies-in box a p).east)))
-    (off-west pen.view pen.width b is.area is.columns (omega (arith, ints, west, (lies-in box b q).east)))) ∙ covers))
+    (off-west pen.view pen.width a is.limits (omega (arith, ints, west, (lies-in box a p).east)))
+    (off-west pen.view pen.width b is.limits (omega (arith, ints, west, (lies-in box b q).east)))) ∙ covers))
 
 pub quiet-east : (pen : PenValue) (win box : Area) (place : Place) → IsPen pen win → win.maxx <ℤ box.minx → IsQuiet pen place box
 quiet-east pen win box place is h a b p q i j column row covers =
     let east = rw is.window_is at h in
     absurd (false≢true (sym (step-east pen.view pen.width (device_point pen.view a) (device_point pen.view b) i j is.some column row
-    (off-east pen.view pen.width a is.area is.columns (omega (arith, ints, east, (lies-in box a p).west)))
-    (off-east pen.view pen.width b is.area is.columns (omega (arith, ints, east, (lies-in box b q).west)))) ∙ covers))
+    (off-east pen.view pen.width a is.limits (omega (arith, ints, east, (lies-in box a p).west)))
+    (off-east pen.view pen.width b is.limits (omega (arith, ints, east, (lies-in box b q).west)))) ∙ covers))
 
 pub quiet-south : (pen : PenValue) (win box : Area) (place : Place) → IsPen pen win → box.maxy <ℤ win.miny → IsQuiet pen place box
 quiet-south pen win box place is h a b p q i j column row covers =
     let south = rw is.window_is at h in
     absurd (false≢true (sym (step-south pen.view pen.width (device_point pen.view a) (device_point pen.view b) i j is.some column row
-    (off-south pen.view pen.width a is.area is.rows (omega (arith, ints, south, (lies-in box a p).north)))
-    (off-south pen.view pen.width b is.area is.rows (omega (arith, ints, south, (lies-in box b q).north)))) ∙ covers))
+    (off-south pen.view pen.width a is.limits (omega (arith, ints, south, (lies-in box a p).north)))
+    (off-south pen.view pen.width b is.limits (omega (arith, ints, south, (lies-in box b q).north)))) ∙ covers))
 
 pub quiet-north : (pen : PenValue) (win box : Area) (place : Place) → IsPen pen win → win.maxy <ℤ box.miny → IsQuiet pen place box
 quiet-north pen win box place is h a b p q i j column row covers =
     let north = rw is.window_is at h in
     absurd (false≢true (sym (step-north pen.view pen.width (device_point pen.view a) (device_point pen.view b) i j column row
-    (off-north pen.view pen.width a is.area is.rows (omega (arith, ints, north, (lies-in box a p).south)))
-    (off-north pen.view pen.width b is.area is.rows (omega (arith, ints, north, (lies-in box b q).south)))) ∙ covers))
+    (off-north pen.view pen.width a is.limits (omega (arith, ints, north, (lies-in box a p).south)))
+    (off-north pen.view pen.width b is.limits (omega (arith, ints, north, (lies-in box b q).south)))) ∙ covers))
 
 -- and so is a box of one place
 pub quiet-alone : (pen : PenValue) (place : Place) (box : Area) → box.minx ≡ place.x → box.maxx ≡ place.x → box.miny ≡ place.y → box.maxy ≡ place.y → IsQuiet pen place box

@@ -4,7 +4,7 @@ use Rattle.std.specs.Int.{int_div_euclid}
 use Rattle.geom.specs.Device.{PixelValue, pixel_of}
 use Rattle.geom.specs.Range.{IsBelow}
 use Rattle.geom.specs.World.{Area, IsExtent, Place}
-use Rattle.viewport.specs.View.{ViewValue, device_point, height_of, sixteenths}
+use Rattle.viewport.specs.View.{ViewValue, device_point, down_of}
 use Rattle.inking.specs.Stroked.{has_place}
 
 -- so many millionths of a degree are no more than a sixteenth of a pixel shows, where a side of so many pixels shows a whole
@@ -16,12 +16,12 @@ pub record IsGrain (pixels : ℕ) (whole grain : ℤ) : Type 0 where
 -- the same of both axes of a view: of longitudes, and of heights
 pub record AreGrains (view : ViewValue) (across down : ℤ) : Type 0 where
   pub area : IsExtent view.area
-  pub columns : IsGrain view.width (view.area.maxx -ℤ view.area.minx) across
-  pub rows : IsGrain view.height (view.area.maxy -ℤ view.area.miny) down
+  pub columns : IsGrain view.columns (view.area.maxx -ℤ view.area.minx) across
+  pub rows : IsGrain view.rows (view.area.maxy -ℤ view.area.miny) down
 
 -- the row of pixels that a latitude lies in
 abbrev pub row_at : ViewValue → ℤ → ℤ
-row_at view latitude = int_div_euclid (sixteenths view.height (view.area.maxy -ℤ height_of view.heights latitude) (view.area.maxy -ℤ view.area.miny)) (pos 16)
+row_at view latitude = int_div_euclid (down_of view latitude) (pos 16)
 
 -- all latitudes between two lie in a row
 abbrev pub AreOfRow : ViewValue → ℤ → ℤ → ℤ → Type 0

@@ -1,3 +1,4 @@
 pub mod Grain
+pub mod Rounded
 pub mod Stroked
 pub mod Styles

@@ -3,15 +3,14 @@ use Rattle.std.specs.Prelude.{◌≡◌, ℕ, ◌*◌, ◌<◌, ◌≤◌, lengt
 use Rattle.std.specs.List.{list_any}
 use Rattle.geom.specs.Device.{DevicePoint, pixel_centre}
 use Rattle.geom.specs.EvenOdd.{edge_between}
-use Rattle.geom.specs.Side.{IsPictureSide}
-use Rattle.geom.specs.World.{Area, IsExtent, Place}
+use Rattle.geom.specs.World.{Area, Place}
 use Rattle.mapdefs.specs.declared.colour.Rgb.{Rgb}
 use Rattle.mapdefs.specs.declared.limits.TheConstants.{MAX_LINE_WIDTH}
 use Rattle.mapdefs.specs.declared.picture.PictureFields.{PictureFields}
 use Rattle.strokes.specs.Line.{covers_centre, segments_of, square_at}
 use Rattle.strokes.specs.Segment.{covers_segment}
 use Rattle.strokes.specs.Square.{covers_square}
-use Rattle.viewport.specs.View.{ViewValue, device_point, window}
+use Rattle.viewport.specs.View.{IsView, ViewValue, device_point, window}
 use Rattle.canvas.specs.Painted.{IsFilled}
 use Rattle.inking.specs.declared.trail.Tip.{Tip}
 use Rattle.inking.specs.declared.trail.Trail.{Trail}
@@ -52,9 +51,7 @@ pub record PenValue : Type 0 where
 pub record IsPen (pen : PenValue) (window_of_pen : Area) : Type 0 where
   pub some : 1 ≤ pen.width
   pub most : pen.width ≤ MAX_LINE_WIDTH
-  pub area : IsExtent pen.view.area
-  pub columns : IsPictureSide pen.view.width
-  pub rows : IsPictureSide pen.view.height
+  pub limits : IsView pen.view
   pub window_is : window_of_pen ≡ window pen.view pen.width
 
 -- the place lies in the box, or on its border

@@ -7,9 +7,7 @@ ghost use Rattle.viewport.specs.View.{device_point, steepest};
 ghost use Rattle.inking.specs.Grain.{AreOfPixel, AreOfRow, IsGrain, row_at};
 ghost use Rattle.inking.specs.Stroked.{has_place};
 
-use geom::{
-    Coordinate, Device, GREATEST_COORDINATE, LEAST_COORDINATE, Micro, PictureSide, World, WorldBox,
-};
+use geom::{Coordinate, Device, GREATEST_COORDINATE, LEAST_COORDINATE, Micro, World, WorldBox};
 use std::marker::Model;
 use viewport::{Heights, Projection};
 
@@ -44,8 +42,8 @@ impl<'a> Grain<'a> {
         let area = projection.area();
         Grain {
             projection,
-            across: grain_of(projection.width(), span(area.minx(), area.maxx())),
-            down: grain_of(projection.height(), span(area.miny(), area.maxy())),
+            across: grain_of(projection.columns(), span(area.minx(), area.maxx())),
+            down: grain_of(projection.rows(), span(area.miny(), area.maxy())),
         }
     }
 
@@ -129,13 +127,14 @@ fn span(low: Micro, high: Micro) -> i64
     high.millionths() - low.millionths()
 }
 
-// The whole millionths that a sixteenth of a pixel shows, where a side shows so many.
-fn grain_of(side: PictureSide, whole: i64) -> i64
+// The whole millionths that a sixteenth of a pixel shows, where a side of so many pixels shows so many.
+fn grain_of(pixels: u16, whole: i64) -> i64
+    requires pixels { 1 ≤ pixels }
     requires some { pos 0 <ℤ whole }
     requires most { IsBelow (2 ^ 31) whole }
-    ensures { IsGrain side whole result }
+    ensures { IsGrain pixels whole result }
 {
-    whole.div_euclid(16 * i64::from(side.pixels()))
+    whole.div_euclid(16 * i64::from(pixels))
 }
 
 // The latitudes of a grain of heights, where heights rise the most.

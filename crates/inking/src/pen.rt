@@ -1,5 +1,4 @@
 ghost use Rattle.std.specs.Prelude.{◌≡◌, ◌≤◌, ◌&&◌, true, int_le};
-ghost use Rattle.geom.specs.World.{IsExtent};
 ghost use Rattle.mapdefs.specs.declared.limits.TheConstants.{MAX_LINE_WIDTH};
 ghost use Rattle.viewport.specs.View.{device_point};
 ghost use Rattle.inking.specs.Stroked.{IsQuiet, has_box, has_place};
@@ -43,8 +42,7 @@ impl<'a> Pen<'a> {
         ensures value { result ≡ record { view = scene.now.view; width = width; colour = colour } }
     {
         let projection = scene.projection();
-        let _area = projection.area();
-        let _sides = (projection.width().pixels(), projection.height().pixels());
+        let _columns = projection.columns();
         Pen {
             grain: Grain::new(projection),
             window: canvas.window(projection, u16::from(width)),

@@ -1,8 +1,7 @@
--- The bytes of a pixel, which has a colour or nothing (Netpbm, PPM and PAM; docs/WMS.md, "Pictures").
-use Rattle.std.specs.Prelude.{ℕ, List, [], ◌∷◌, Option, None, Some}
-use Rattle.mapdefs.specs.declared.colour.Rgb.{Rgb}
+-- The bytes of a pixel (Netpbm, PPM and PAM; docs/WMS.md, "Pictures").
+use Rattle.std.specs.Prelude.{ℕ, List, [], ◌∷◌}
+use Rattle.mapdefs.specs.declared.rgba.Rgba.{Rgba}
 
--- red, green, blue and alpha: a colour is opaque, and nothing is 0 throughout
-abbrev pub rgba_bytes : Option Rgb → List ℕ
-rgba_bytes None = 0 ∷ 0 ∷ 0 ∷ 0 ∷ []
-rgba_bytes (Some colour) = colour.red ∷ colour.green ∷ colour.blue ∷ 255 ∷ []
+-- red, green, blue and alpha
+abbrev pub rgba_bytes : Rgba → List ℕ
+rgba_bytes pixel = pixel.red ∷ pixel.green ∷ pixel.blue ∷ pixel.alpha ∷ []

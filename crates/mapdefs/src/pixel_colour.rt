@@ -1,4 +1,5 @@
 ghost use Rattle.std.specs.Prelude.{◌≡◌};
+ghost use Rattle.mapdefs.specs.Alpha.{rgba_of};
 ghost use Rattle.mapdefs.specs.PixelBytes.{rgba_bytes};
 
 use crate::Rgb;
@@ -67,7 +68,7 @@ impl PixelColour {
 
     /// Its red, green, blue and alpha.
     pub fn bytes(self) -> [u8; 4]
-        ensures { result ≡ rgba_bytes self }
+        ensures { result ≡ rgba_bytes (rgba_of self) }
     {
         [self.red, self.green, self.blue, self.alpha]
     }

@@ -2,11 +2,12 @@
 use Rattle.std.specs.Prelude.{◌≡◌, ℕ, ◌+◌, ◌-ℤ◌, unsigned_abs, List, [], ◌∷◌, Some, Result, Ok, Err}
 use Rattle.std.specs.List.{AllZip}
 use Rattle.geom.specs.Scale.{PictureScale}
+use Rattle.mapdefs.specs.Alpha.{with_alphas}
 use Rattle.mapdefs.specs.declared.map.MapFields.{MapFields}
 use Rattle.mapdefs.specs.declared.picture.PictureFields.{PictureFields}
 use Rattle.operations.specs.declared.mime.Mime.TheVariants as mime
 use Rattle.scene.specs.Scene.{SceneValue}
-use Rattle.viewport.specs.View.{ViewValue}
+use Rattle.viewport.specs.View.{ViewValue, plain_view}
 use Rattle.viewport.specs.declared.heights.Heights.{Heights}
 use Rattle.viewport.specs.declared.heights.Heights.TheVariants as heights
 use Rattle.crsaxes.specs.declared.crs.Crs.{Crs}
@@ -42,7 +43,7 @@ heights_of crs.Epsg3857 = heights.Mercator
 
 -- the view of a request: its area, by a picture of its sides
 abbrev pub view_of : MapRequest → ViewValue
-view_of request = record { heights = heights_of request.crs; area = request.area; width = request.width; height = request.height }
+view_of request = plain_view (heights_of request.crs) request.area request.width request.height
 
 -- the scale of a view: how much of the world, from west to east, its columns of pixels show
 abbrev pub scale_of : ViewValue → PictureScale
@@ -50,7 +51,7 @@ scale_of view = record { span = unsigned_abs (view.area.maxx -ℤ view.area.minx
 
 -- an answer is a picture in a format: as a pixmap these bytes, as PNG any that are read as the picture
 abbrev pub IsWrittenPicture : Format → PictureFields → Answer → Type 0
-IsWrittenPicture format.Png picture answer = (answer.mime ≡ mime.Png) × (decoded answer.body ≡ Some picture)
+IsWrittenPicture format.Png picture answer = (answer.mime ≡ mime.Png) × (decoded answer.body ≡ Some (with_alphas picture))
 IsWrittenPicture format.Pixmap picture answer = answer ≡ record { mime = mime.Pixmap; body = ppm picture }
 IsWrittenPicture format.ArbitraryMap picture answer = answer ≡ record { mime = mime.ArbitraryMap; body = pam picture }
 

@@ -2,9 +2,7 @@ ghost use Rattle.std.specs.Prelude.{◌≡◌, ◌<◌, ◌≤◌, Some, IfOk, l
 ghost use Rattle.std.specs.Option.{option_copied};
 ghost use Rattle.geom.specs.Device.{pixel_of};
 ghost use Rattle.mapdefs.specs.Class.{class_of, is_visible_layer};
-ghost use Rattle.geom.specs.Side.{IsPictureSide};
-ghost use Rattle.geom.specs.World.{IsExtent};
-ghost use Rattle.viewport.specs.View.{device_point, points_of, window};
+ghost use Rattle.viewport.specs.View.{IsView, device_point, points_of, window};
 ghost use Rattle.viewport.specs.declared.view.TheConstants.{MAX_MARGIN};
 
 use crate::classes::first_class;
@@ -80,13 +78,11 @@ impl<'a> Scene<'a> {
         self.map.get().symbols.as_slice()
     }
 
-    /// The part of the world that the picture shows, and `margin` pixels on each side of it.
+    /// The part of the world that the canvas shows, and `margin` pixels on each side of it.
     pub fn window(&self, margin: u16) -> WorldBox
         requires { margin ≤ MAX_MARGIN }
         ensures value { result ≡ window self.now.view margin }
-        ensures limits { IsExtent self.now.view.area }
-        ensures width { IsPictureSide self.now.view.width }
-        ensures height { IsPictureSide self.now.view.height }
+        ensures limits { IsView self.now.view }
     {
         self.projection.window(margin)
     }

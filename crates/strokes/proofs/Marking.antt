@@ -67,6 +67,14 @@ none-more f xs k x bound is before h =
 pub or-none : (t u : Bool) → t ≡ false → u ≡ false → (t || u) ≡ false
 or-none t u p q = ap (λ x. x || u) p ∙ q
 
+-- the marks of one group, on none before
+pub marked-one : (n i : ℕ) (test : Bool) (none_yet marks : List Bool) → i < n → none_yet ≡ replicate n false → is_marked marks i ≡ (test || is_marked none_yet i) → is_marked marks i ≡ test
+marked-one n i test none_yet marks h blank e = e ∙ (ap (λ t. test || t) (ap (λ xs. is_marked xs i) blank ∙ get_or-replicate n i false false h) ∙ last test)
+  where
+    last : (t : Bool) → (t || false) ≡ t
+    last true = refl
+    last false = refl
+
 -- what two rounds of marks come to, over none
 pub marked-all : (n i : ℕ) (first second : Bool) (none_yet one both : List Bool) → i < n → none_yet ≡ replicate n false →
     is_marked one i ≡ (first || is_marked none_yet i) → is_marked both i ≡ (second || is_marked one i) → is_marked both i ≡ (first || second)

@@ -6,6 +6,7 @@ use Rattle.geom.specs.Edge.{EdgeEnds}
 use Rattle.geom.specs.EvenOdd.{edge_between}
 use Rattle.geom.proofs.Rings.{closing_edges, ring_edges-closing}
 use Rattle.strokes.specs.Line.{edges_of}
+use Rattle.strokes.specs.Round.{point_edge, round_edges}
 
 -- the segments from a vertex over those that follow, and where the line is closed back to the first one
 abbrev pub following : Bool → DevicePoint → DevicePoint → List DevicePoint → List EdgeEnds
@@ -25,3 +26,9 @@ pub edges_of-following : (closed : Bool) (part : List DevicePoint) (first : Devi
     edges_of closed part ≡ following closed first first rest
 edges_of-following true part first rest e = ring_edges-closing part first rest e ∙ closing-following first first rest
 edges_of-following false part first rest e = rw e (zip-following first first rest)
+
+-- those of a round line begin with that of the first vertex alone
+pub round_edges-following : (closed : Bool) (part : List DevicePoint) (first : DevicePoint) (rest : List DevicePoint) → part ≡ first ∷ rest →
+    round_edges closed part ≡ point_edge first ∷ following closed first first rest
+round_edges-following closed part first rest e =
+    rw e (ap (λ more. point_edge first ∷ more) (edges_of-following closed (first ∷ rest) first rest refl))

@@ -1,6 +1,9 @@
+pub mod Chord
 pub mod Columns
 pub mod Law
 pub mod Line
+pub mod Round
+pub mod RoundLaw
 pub mod Segment
 pub mod Short
 pub mod Square

@@ -2,6 +2,7 @@
 //! states it.
 
 ghost use Rattle.strokes.specs.Law.{AreColumnsWide, AreRowsWide, FlatSegmentsFollowTheirLine, IsNothing, IsSameBack, SteepSegmentsFollowTheirLine};
+ghost use Rattle.strokes.specs.RoundLaw.{RoundLinesAreSameBack, RoundPointsAreDiscs, RoundRowsAreRuns, RoundSegmentsAreNear, RoundSegmentsAreSameBack};
 ghost use Rattle.strokes.specs.Short.{ShortSegmentsAddNothing};
 
 /// In each row whose pixel centres lie between its ends, a segment that goes further down than across covers
@@ -41,4 +42,29 @@ pub fn nothing()
 /// one column or one row, at most the width apart.
 pub fn short()
     ensures { ShortSegmentsAddNothing }
+{}
+
+/// A round segment covers exactly the points that are at most half its width away from some point of it.
+pub fn round_near()
+    ensures { RoundSegmentsAreNear }
+{}
+
+/// It covers the same points in both directions.
+pub fn round_back()
+    ensures { RoundSegmentsAreSameBack }
+{}
+
+/// A round segment of length 0 covers a disc.
+pub fn round_disc()
+    ensures { RoundPointsAreDiscs }
+{}
+
+/// What lies in a row between two points that a round segment covers is covered, so that each row has one run.
+pub fn round_rows()
+    ensures { RoundRowsAreRuns }
+{}
+
+/// A round line along a part covers the same pixels from its last vertex to its first.
+pub fn round_line_back()
+    ensures { RoundLinesAreSameBack }
 {}

@@ -9,25 +9,42 @@
 //! `laws::short` a short segment of an odd width covers nothing but the squares round its ends.
 //! `RowWalk::columns` gives what the segment covers in a row (`all`), with one division for each segment.
 //!
+//! `RoundSegment` and `RoundLine` are covers of round lines, by `covers_round` and `Round.covers_pixel`.
+//! `laws::round_near` states that a round segment covers exactly what is at most half its width away from some point
+//! of it, `laws::round_rows` that it covers one run of each row, `laws::round_back` and `laws::round_line_back` that it
+//! and a line cover the same backwards. `RoundStep::columns` gives what it covers in a row by `Chords`, which are
+//! computed once a width.
+//!
 //! Terms: a *segment* joins two vertices of a line. It is *steep* where it goes further down than across.
 //! To *turn* a point or a segment is to exchange across and down: what a steep segment covers row by row, a
 //! flat one covers column by column. A segment is *short* where its ends lie in pixels of one column or one row,
 //! at most its width apart. A *strip* is a segment that is walked row by row, or a turned one.
 #![tactic(auto)]
 
+mod chords;
 mod columns;
+mod distance;
 pub mod laws;
 mod line;
 mod marks;
 mod neighbours;
 mod number;
+mod root;
+mod round;
+mod round_columns;
+mod round_line;
+mod round_step;
 mod segment;
 mod square;
 mod steps;
 mod strip;
 
+pub use chords::Chords;
 pub use line::Line;
 pub use neighbours::are_neighbours;
+pub use round::RoundSegment;
+pub use round_line::RoundLine;
+pub use round_step::RoundStep;
 pub use segment::{Segment, is_steep};
 pub use square::{Square, single_column};
-pub use strip::{RowWalk, Strip, is_small};
+pub use strip::{RowWalk, Strip, is_small, is_small_point};

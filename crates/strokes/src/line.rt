@@ -108,8 +108,8 @@ impl Line {
     }
 }
 
-// Whether some of the covers covers the pixel.
-fn is_on_some<C: Cover>(covers: &[C], i: u16, j: u16) -> bool
+/// Whether some of the covers covers the pixel.
+pub fn is_on_some<C: Cover>(covers: &[C], i: u16, j: u16) -> bool
     requires column { i < MAX_PICTURE_SIDE }
     requires row { j < MAX_PICTURE_SIDE }
     ensures { result ≡ list_any (λ c. C.covered c i j) covers.now }
@@ -117,8 +117,8 @@ fn is_on_some<C: Cover>(covers: &[C], i: u16, j: u16) -> bool
     covers.iter().any(|cover| cover.covers(i, j))
 }
 
-// The rows outside of which none of them covers a pixel.
-fn rows_of_all<C: Cover>(covers: &[C], width: PictureSide, height: PictureSide) -> RowRange
+/// The rows outside of which none of them covers a pixel.
+pub fn rows_of_all<C: Cover>(covers: &[C], width: PictureSide, height: PictureSide) -> RowRange
     ensures within { result.to ≤ height }
     ensures none { (i j : ℕ) → i < width → j < height → has_row result j ≡ false → list_any (λ c. C.covered c i j) covers.now ≡ false }
 {

@@ -149,8 +149,8 @@ pub fn is_small(edge: Edge) -> bool
     is_small_point(edge.low_end()) && is_small_point(edge.high_end())
 }
 
-// The same of a point.
-fn is_small_point(point: Device) -> bool
+/// The same of a point.
+pub fn is_small_point(point: Device) -> bool
     ensures { result ≡ is_small_point point }
 {
     point.x().unsigned_abs() < 16_777_216 && point.y().unsigned_abs() < 16_777_216

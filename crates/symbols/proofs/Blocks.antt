@@ -6,7 +6,7 @@ use Rattle.std.proofs.Math.Seq.{take-add}
 use Rattle.std.specs.List.{flat_map}
 use Rattle.std.specs.Prelude.{slice_index_or, slice_set}
 use Rattle.std.specs.Simd.{first_chunks}
-use Rattle.mapdefs.specs.PixelBytes.{rgba_bytes}
+use Rattle.symbols.specs.Netpbm.{opacity_bytes}
 use Rattle.mapdefs.specs.declared.colour.Rgb.{Rgb}
 
 -- three bytes are set one after another, and follow the bytes that were set before
@@ -72,16 +72,16 @@ added f xs old mid new blocks rest front back first last =
     ∙ ap (λ bytes. old ++ bytes) (blocks-and-rest f xs)
 
 -- four bytes of a pixel are its bytes
-four-bytes : (pixel : Option Rgb) (four : List ℕ) → four ≡ rgba_bytes pixel →
-    slice_index_or four 0 0 ∷ slice_index_or four 1 0 ∷ slice_index_or four 2 0 ∷ slice_index_or four 3 0 ∷ [] ≡ rgba_bytes pixel
+four-bytes : (pixel : Option Rgb) (four : List ℕ) → four ≡ opacity_bytes pixel →
+    slice_index_or four 0 0 ∷ slice_index_or four 1 0 ∷ slice_index_or four 2 0 ∷ slice_index_or four 3 0 ∷ [] ≡ opacity_bytes pixel
 four-bytes None four is = rw is refl
 four-bytes (Some colour) four is = rw is refl
 
 -- the bytes of one more pixel are set
 pub four-more : (pixels : List (Option Rgb)) (i : ℕ) (pixel : Option Rgb) (bytes four : List ℕ) → i < length pixels → get_or pixels i pixel ≡ pixel →
-    four ≡ rgba_bytes pixel → 4 * i + 4 ≤ length bytes → take (4 * i) bytes ≡ flat_map rgba_bytes (take i pixels) →
+    four ≡ opacity_bytes pixel → 4 * i + 4 ≤ length bytes → take (4 * i) bytes ≡ flat_map opacity_bytes (take i pixels) →
     take (4 * (i + 1)) (slice_set (slice_set (slice_set (slice_set bytes (4 * i) (slice_index_or four 0 0)) (4 * i + 1) (slice_index_or four 1 0)) (4 * i + 2) (slice_index_or four 2 0)) (4 * i + 3) (slice_index_or four 3 0))
-    ≡ flat_map rgba_bytes (take (i + 1) pixels)
+    ≡ flat_map opacity_bytes (take (i + 1) pixels)
 four-more pixels i pixel bytes four h e is room front =
     let set : List ℕ =
     slice_set (slice_set (slice_set (slice_set bytes (4 * i) (slice_index_or four 0 0)) (4 * i + 1) (slice_index_or four 1 0)) (4 * i + 2) (slice_index_or four 2 0)) (4 * i + 3) (slice_index_or four 3 0) in
@@ -89,5 +89,5 @@ four-more pixels i pixel bytes four h e is room front =
     ap (λ n. take n set) more
     ∙ put-four bytes (4 * i) (slice_index_or four 0 0) (slice_index_or four 1 0) (slice_index_or four 2 0) (slice_index_or four 3 0) room
     ∙ ap (λ p. take (4 * i) bytes ++ p) (four-bytes pixel four is)
-    ∙ ap (λ before. before ++ rgba_bytes pixel) front
-    ∙ sym (one-more rgba_bytes pixels i pixel h e)
+    ∙ ap (λ before. before ++ opacity_bytes pixel) front
+    ∙ sym (one-more opacity_bytes pixels i pixel h e)

@@ -10,7 +10,7 @@ use Rattle.std.specs.Prelude.{codes}
 use Rattle.geom.specs.Decimal.{number_of}
 use Rattle.geom.proofs.Digits.{digit-range, digits-cons}
 use Rattle.geom.proofs.Written.{numeral}
-use Rattle.mapdefs.specs.PixelBytes.{rgba_bytes}
+use Rattle.symbols.specs.Netpbm.{opacity_bytes}
 use Rattle.mapdefs.specs.declared.colour.Rgb.{Rgb}
 use Rattle.mapdefs.specs.Name.{is_same_name}
 use Rattle.symbols.proofs.Files.{or-left, or-right}
@@ -19,12 +19,12 @@ use Rattle.symbols.specs.Netpbm.{pam}
 use Rattle.symbols.specs.Pam.{PamHeader, is_line_feed, lines_within, no_header, picture_in, tuples_of, with_line}
 
 -- the bytes of pixels are four each, and are read as the pixels
-bytes-count : (pixels : List (Option Rgb)) → length (flat_map rgba_bytes pixels) ≡ 4 * length pixels
+bytes-count : (pixels : List (Option Rgb)) → length (flat_map opacity_bytes pixels) ≡ 4 * length pixels
 bytes-count [] = refl
 bytes-count (None ∷ cs) = ap (λ n. suc (suc (suc (suc n)))) (bytes-count cs) ∙ omega arith
 bytes-count (Some c ∷ cs) = ap (λ n. suc (suc (suc (suc n)))) (bytes-count cs) ∙ omega arith
 
-tuples-read : (pixels : List (Option Rgb)) → tuples_of 255 (flat_map rgba_bytes pixels) ≡ Some pixels
+tuples-read : (pixels : List (Option Rgb)) → tuples_of 255 (flat_map opacity_bytes pixels) ≡ Some pixels
 tuples-read [] = refl
 tuples-read (None ∷ cs) = rw (tuples-read cs) refl
 tuples-read (Some c ∷ cs) = rw (tuples-read cs) refl
@@ -136,18 +136,18 @@ same-lines across down raster =
 
 -- the pixels of a header with the right number of tuples
 pixels-in : (width height : ℕ) (pixels : List (Option Rgb)) → length pixels ≡ width * height →
-    picture_in (record { width = width; height = height; depth = 4; maxval = 255; tupltype = codes "RGB_ALPHA" }) (flat_map rgba_bytes pixels)
+    picture_in (record { width = width; height = height; depth = 4; maxval = 255; tupltype = codes "RGB_ALPHA" }) (flat_map opacity_bytes pixels)
     ≡ Some (record { width = width; height = height; pixels = pixels })
 pixels-in width height pixels area =
-    let count : length (flat_map rgba_bytes pixels) ≡ 4 * (width * height) = bytes-count pixels ∙ ap (λ n. 4 * n) area in
-    let counted : (length (flat_map rgba_bytes pixels) == 4 * (width * height)) ≡ true = grind (arith, nat_tests, count) in
+    let count : length (flat_map opacity_bytes pixels) ≡ 4 * (width * height) = bytes-count pixels ∙ ap (λ n. 4 * n) area in
+    let counted : (length (flat_map opacity_bytes pixels) == 4 * (width * height)) ≡ true = grind (arith, nat_tests, count) in
     rw (counted, tuples-read pixels) refl
 
 pub maps : AreMapsRead
 maps p within columns rows =
     let across = numeral p.width (omega (arith, columns.most)) in
     let down = numeral p.height (omega (arith, rows.most)) in
-    let raster = flat_map rgba_bytes p.pixels in
+    let raster = flat_map opacity_bytes p.pixels in
     let lines : lines_within (length (pam p)) no_header (drop 3 (pam p)) ≡ Some (header_of (decimal p.width) (decimal p.height), raster) =
     ap (λ more. lines_within (length (pam p)) no_header (codes "WIDTH " ++ more)) (same-lines (decimal p.width) (decimal p.height) raster)
     ∙ all-lines _ (decimal p.width) (decimal p.height) raster across.digits down.digits in

@@ -6,8 +6,8 @@ use crate::BLOCK;
 use mapdefs::{Items, Picture, PixelColour};
 use std::alloc::{AllocError, Global};
 
-// The header of a pixmap of these sides.
-fn ppm_header(alloc: Global, width: u16, height: u16) -> Result<String, AllocError>
+/// The header of a pixmap of these sides.
+pub fn ppm_header(alloc: Global, width: u16, height: u16) -> Result<String, AllocError>
     ensures { IfOk result (λ text. string_bytes text ≡ ppm_header width height) }
 {
     format!(in alloc; "P6\n{width} {height}\n255\n")

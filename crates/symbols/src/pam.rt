@@ -1,14 +1,13 @@
 ghost use Rattle.std.specs.Prelude.{◌≡◌, ◌++◌, IfOk, OnOk, string_bytes};
 ghost use Rattle.std.specs.List.{flat_map};
-ghost use Rattle.mapdefs.specs.PixelBytes.{rgba_bytes};
-ghost use Rattle.symbols.specs.Netpbm.{pam, pam_header};
+ghost use Rattle.symbols.specs.Netpbm.{opacity_bytes, pam, pam_header};
 
 use crate::BLOCK;
 use mapdefs::{Items, Picture, PixelColour};
 use std::alloc::{AllocError, Global};
 
-// The header of an arbitrary map of these sides.
-fn pam_header(alloc: Global, width: u16, height: u16) -> Result<String, AllocError>
+/// The header of an arbitrary map of these sides.
+pub fn pam_header(alloc: Global, width: u16, height: u16) -> Result<String, AllocError>
     ensures { IfOk result (λ text. string_bytes text ≡ pam_header width height) }
 {
     format!(in alloc;
@@ -18,7 +17,7 @@ fn pam_header(alloc: Global, width: u16, height: u16) -> Result<String, AllocErr
 
 // The bytes of as many pixels as are written at once.
 fn block_bytes(pixels: &[PixelColour; BLOCK]) -> [u8; 4 * BLOCK]
-    ensures { result ≡ flat_map rgba_bytes pixels.now }
+    ensures { result ≡ flat_map opacity_bytes pixels.now }
 {
     let mut bytes = [0; 4 * BLOCK];
     for i in 0..BLOCK {
@@ -33,7 +32,7 @@ fn block_bytes(pixels: &[PixelColour; BLOCK]) -> [u8; 4 * BLOCK]
 
 // Adds the bytes of pixels that are written many at once.
 fn add_blocks(bytes: &mut Vec<u8>, blocks: &[[PixelColour; BLOCK]]) -> Result<(), AllocError>
-    ensures { OnOk result (bytes.new.items ≡ bytes.old.items ++ flat_map (flat_map rgba_bytes) blocks.now) }
+    ensures { OnOk result (bytes.new.items ≡ bytes.old.items ++ flat_map (flat_map opacity_bytes) blocks.now) }
 {
     for block in blocks {
         bytes.extend_from_slice(&block_bytes(block))?;
@@ -43,7 +42,7 @@ fn add_blocks(bytes: &mut Vec<u8>, blocks: &[[PixelColour; BLOCK]]) -> Result<()
 
 // Adds the bytes of pixels that are written one by one.
 fn add_rest(bytes: &mut Vec<u8>, pixels: &[PixelColour]) -> Result<(), AllocError>
-    ensures { OnOk result (bytes.new.items ≡ bytes.old.items ++ flat_map rgba_bytes pixels.now) }
+    ensures { OnOk result (bytes.new.items ≡ bytes.old.items ++ flat_map opacity_bytes pixels.now) }
 {
     for pixel in pixels {
         bytes.extend_from_slice(&pixel.bytes())?;
@@ -53,7 +52,7 @@ fn add_rest(bytes: &mut Vec<u8>, pixels: &[PixelColour]) -> Result<(), AllocErro
 
 // Adds the bytes of some pixels.
 fn add_pixels(bytes: &mut Vec<u8>, pixels: &[PixelColour]) -> Result<(), AllocError>
-    ensures { OnOk result (bytes.new.items ≡ bytes.old.items ++ flat_map rgba_bytes pixels.now) }
+    ensures { OnOk result (bytes.new.items ≡ bytes.old.items ++ flat_map opacity_bytes pixels.now) }
 {
     bytes.reserve(pixels.len().saturating_mul(4))?;
     let (blocks, rest) = pixels.as_chunks::<BLOCK>();

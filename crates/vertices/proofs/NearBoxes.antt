@@ -1,60 +1,64 @@
--- Points on all sides of the picture have a box that meets its window.
+-- Points on all sides of the canvas have a box that meets its window.
 use Rattle.std.proofs.Common.{ℕ, ◌+◌, ◌*◌, ◌<◌, List, ◌⊎◌, inl, inr, ⊎_elim, arith}
 use Rattle.std.proofs.lemmas.Int.{ints, by_lt_z}
-use Rattle.std.specs.Int.{int_div_euclid}
 use Rattle.std.specs.Int.RustNames.{unsigned_abs}
 use Rattle.std.specs.List.{Any}
-use lib.IntN.{ℤ, pos, negsuc, neg_ℤ, ◌+ℤ◌, ◌-ℤ◌}
+use lib.IntN.{ℤ, pos, neg_ℤ, ◌-ℤ◌}
 use lib.Signed.{◌<ℤ◌, ◌≤ℤ◌}
-use Rattle.geom.proofs.Quotients.{quotient_parts}
-use Rattle.geom.specs.Side.{IsPictureSide}
-use Rattle.geom.specs.World.{Area, Place, HasPlace, IsExtent}
-use Rattle.viewport.specs.View.{ViewValue, device_point, height_of, shown_by, sixteenths, window}
-use Rattle.viewport.proofs.Quotients.{sixteenths-law}
+use Rattle.geom.specs.World.{Area, Place, HasPlace}
+use Rattle.viewport.specs.View.{IsView, ViewValue, across_of, device_point, down_of, height_of, shown_before, shown_by, window}
 use Rattle.viewport.proofs.Rising.{north-of-south, ordered-law, south-of-north}
-use Rattle.viewport.proofs.Windows.{not-after, not-before, shown-enough}
+use Rattle.viewport.proofs.Windows.{in-order, not-past, not-short, some-pixels}
 use Rattle.mapdefs.specs.Near.{LiesInBoxOf}
 
--- a part whose sixteenths end before the margin beyond the picture is at most the whole and what the margin shows
-pub not-past : (margin pixels : ℕ) (part whole : ℤ) → 0 < pixels → pos 0 <ℤ whole → sixteenths pixels part whole <ℤ pos (16 * (pixels + margin)) →
-    part ≤ℤ (whole +ℤ pos (shown_by margin pixels (unsigned_abs whole)))
-not-past margin pixels part (pos span) some h most =
-    let n = sixteenths pixels part (pos span) in
-    let law = sixteenths-law pixels part (pos span) h in
-    let q = quotient_parts n (pos 16) (omega (arith, ints)) in
-    let short : int_div_euclid n (pos 16) <ℤ pos (pixels + margin) = omega (arith, ints, q.0, most) in
-    omega (arith, ints, not-after margin pixels (shown_by margin pixels span) span part n some (shown-enough margin pixels span some) law.greatest short)
-not-past margin pixels part (negsuc span) some h most = absurd (omega (arith, ints))
+-- a place whose device point is not beyond the margin right of the canvas is not east of the window, and so on for its other sides
+pub at-east : (view : ViewValue) (margin : ℕ) (longitude : ℤ) → IsView view → across_of view longitude <ℤ pos (16 * (view.width + margin)) → longitude ≤ℤ (window view margin).maxx
+at-east view margin longitude is most =
+    let area = view.area in
+    omega (
+      arith,
+      ints,
+      not-past (view.left + view.width + margin) view.columns (longitude -ℤ area.minx) (area.maxx -ℤ area.minx) (some-pixels view.columns view.left view.width is.across)
+          (omega (arith, ints, is.area.columns)) (omega (arith, ints, most)),
+    )
 
--- and one whose sixteenths begin in the margin before it is not less than 0 by more than that shows
-pub not-short : (margin pixels : ℕ) (part whole : ℤ) → 0 < pixels → pos 0 <ℤ whole → neg_ℤ (pos (16 * margin)) ≤ℤ sixteenths pixels part whole →
-    neg_ℤ (pos (shown_by margin pixels (unsigned_abs whole))) ≤ℤ part
-not-short margin pixels part (pos span) some h least =
-    let n = sixteenths pixels part (pos span) in
-    let law = sixteenths-law pixels part (pos span) h in
-    let q = quotient_parts n (pos 16) (omega (arith, ints)) in
-    let long : neg_ℤ (pos margin) ≤ℤ int_div_euclid n (pos 16) = omega (arith, ints, q.1, least) in
-    not-before margin pixels (shown_by margin pixels span) span part n some (shown-enough margin pixels span some) law.at_most long
-not-short margin pixels part (negsuc span) some h least = absurd (omega (arith, ints))
+pub at-west : (view : ViewValue) (margin : ℕ) (longitude : ℤ) → IsView view → neg_ℤ (pos (16 * margin)) ≤ℤ across_of view longitude → (window view margin).minx ≤ℤ longitude
+at-west view margin longitude is least =
+    let area = view.area in
+    omega (
+      arith,
+      ints,
+      not-short (pos view.left -ℤ pos margin) view.columns (longitude -ℤ area.minx) (area.maxx -ℤ area.minx) (some-pixels view.columns view.left view.width is.across)
+          (omega (arith, ints, is.area.columns)) (omega (arith, ints, least)),
+    )
 
--- so a place whose device point is not beyond the bottom of the margin lies in the window or north of it, and the other way round
-pub at-window : (view : ViewValue) (margin : ℕ) (latitude : ℤ) → IsExtent view.area → 0 < view.height →
-    sixteenths view.height (view.area.maxy -ℤ height_of view.heights latitude) (view.area.maxy -ℤ view.area.miny) <ℤ pos (16 * (view.height + margin)) →
-    (window view margin).miny ≤ℤ latitude
-at-window view margin latitude extent some most =
-    let whole = view.area.maxy -ℤ view.area.miny in
-    let shown = shown_by margin view.height (unsigned_abs whole) in
-    let part = not-past margin view.height (view.area.maxy -ℤ height_of view.heights latitude) whole some (omega (arith, ints, extent.rows)) most in
-    north-of-south view.heights (view.area.miny -ℤ pos shown) latitude (omega (arith, ints, part))
+pub at-south : (view : ViewValue) (margin : ℕ) (latitude : ℤ) → IsView view → down_of view latitude <ℤ pos (16 * (view.height + margin)) → (window view margin).miny ≤ℤ latitude
+at-south view margin latitude is most =
+    let area = view.area in
+    let bottom = pos (shown_by (view.top + view.height + margin) view.rows (unsigned_abs (area.maxy -ℤ area.miny))) in
+    let part = not-past (view.top + view.height + margin) view.rows (area.maxy -ℤ height_of view.heights latitude) (area.maxy -ℤ area.miny)
+    (some-pixels view.rows view.top view.height is.down) (omega (arith, ints, is.area.rows)) (omega (arith, ints, most)) in
+    north-of-south view.heights (area.maxy -ℤ bottom) latitude (omega (arith, ints, part))
 
-pub under-window : (view : ViewValue) (margin : ℕ) (latitude : ℤ) → IsExtent view.area → 0 < view.height →
-    neg_ℤ (pos (16 * margin)) ≤ℤ sixteenths view.height (view.area.maxy -ℤ height_of view.heights latitude) (view.area.maxy -ℤ view.area.miny) →
-    latitude ≤ℤ (window view margin).maxy
-under-window view margin latitude extent some least =
-    let whole = view.area.maxy -ℤ view.area.miny in
-    let shown = shown_by margin view.height (unsigned_abs whole) in
-    let part = not-short margin view.height (view.area.maxy -ℤ height_of view.heights latitude) whole some (omega (arith, ints, extent.rows)) least in
-    south-of-north view.heights (view.area.maxy +ℤ pos shown) latitude (omega (arith, ints, part))
+pub at-north : (view : ViewValue) (margin : ℕ) (latitude : ℤ) → IsView view → neg_ℤ (pos (16 * margin)) ≤ℤ down_of view latitude → latitude ≤ℤ (window view margin).maxy
+at-north view margin latitude is least =
+    let area = view.area in
+    let top = shown_before (pos view.top -ℤ pos margin) view.rows (unsigned_abs (area.maxy -ℤ area.miny)) in
+    let part = not-short (pos view.top -ℤ pos margin) view.rows (area.maxy -ℤ height_of view.heights latitude) (area.maxy -ℤ area.miny)
+    (some-pixels view.rows view.top view.height is.down) (omega (arith, ints, is.area.rows)) (omega (arith, ints, least)) in
+    south-of-north view.heights (area.maxy -ℤ top) latitude (omega (arith, ints, part))
+
+-- the sides of a window are in their order
+pub ordered-window : (view : ViewValue) (margin : ℕ) → IsView view → ((window view margin).minx ≤ℤ (window view margin).maxx) × ((window view margin).miny ≤ℤ (window view margin).maxy)
+ordered-window view margin is =
+    let area = view.area in
+    let across = unsigned_abs (area.maxx -ℤ area.minx) in
+    let down = unsigned_abs (area.maxy -ℤ area.miny) in
+    let bottom = pos (shown_by (view.top + view.height + margin) view.rows down) in
+    let top = shown_before (pos view.top -ℤ pos margin) view.rows down in (
+      omega (arith, ints, in-order view.left view.width margin view.columns across (some-pixels view.columns view.left view.width is.across)),
+      ordered-law view.heights (area.maxy -ℤ bottom) (area.maxy -ℤ top) (omega (arith, ints, in-order view.top view.height margin view.rows down (some-pixels view.rows view.top view.height is.down))),
+    )
 
 -- a number of a range that lies between two others, if they lie on both sides of it or in it
 pick : (least most a b : ℤ) → least ≤ℤ most → a ≤ℤ most → least ≤ℤ b → (z : ℤ) × (least ≤ℤ z) × (z ≤ℤ most) × (a ≤ℤ z) × ((z ≤ℤ a) ⊎ (z ≤ℤ b))
@@ -71,25 +75,17 @@ pub record AreRound (view : ViewValue) (margin : ℕ) (points : List Place) : Ty
   pub top : Any (λ q. neg_ℤ (pos (16 * margin)) ≤ℤ (device_point view q).y) points
 
 -- so their box meets the window
-pub box-in : (view : ViewValue) (margin : ℕ) (points : List Place) → IsExtent view.area → IsPictureSide view.width → IsPictureSide view.height →
-    AreRound view margin points → (place : Place) × HasPlace (window view margin) place × LiesInBoxOf points place
-box-in view margin points extent width height round =
+pub box-in : (view : ViewValue) (margin : ℕ) (points : List Place) → IsView view → AreRound view margin points →
+    (place : Place) × HasPlace (window view margin) place × LiesInBoxOf points place
+box-in view margin points is round =
     let (ka, a, ha, ea, pa) = round.right in
     let (kb, b, hb, eb, pb) = round.left in
     let (kc, c, hc, ec, pc) = round.bottom in
     let (kd, d, hd, ed, pd) = round.top in
-    let area = view.area in
-    let columns : 0 < view.width = omega (arith, width.some) in
-    let rows : 0 < view.height = omega (arith, height.some) in
-    let across : pos 0 <ℤ (area.maxx -ℤ area.minx) = omega (arith, ints, extent.columns) in
-    let east = not-past margin view.width (a.x -ℤ area.minx) (area.maxx -ℤ area.minx) columns across pa in
-    let west = not-short margin view.width (b.x -ℤ area.minx) (area.maxx -ℤ area.minx) columns across pb in
-    let south = at-window view margin c.y extent rows pc in
-    let north = under-window view margin d.y extent rows pd in
-    let shown = shown_by margin view.height (unsigned_abs (area.maxy -ℤ area.miny)) in
     let w : Area = window view margin in
-    let x = pick w.minx w.maxx a.x b.x (omega (arith, ints, extent.columns)) (omega (arith, ints, east)) (omega (arith, ints, west)) in
-    let y = pick w.miny w.maxy d.y c.y (ordered-law view.heights (area.miny -ℤ pos shown) (area.maxy +ℤ pos shown) (omega (arith, ints, extent.rows))) north south in (
+    let order = ordered-window view margin is in
+    let x = pick w.minx w.maxx a.x b.x order.0 (at-east view margin a.x is pa) (at-west view margin b.x is pb) in
+    let y = pick w.miny w.maxy d.y c.y order.1 (at-north view margin d.y is pd) (at-south view margin c.y is pc) in (
       record { x = x.0; y = y.0 },
       record { west = x.1; east = x.2; south = y.1; north = y.2 },
       record {

@@ -1,7 +1,9 @@
 //! Laws of the definitions. A law is a function without arguments whose contract states it.
 
 ghost use Rattle.viewport.specs.Axis.{ProductsAreQuotients};
-ghost use Rattle.viewport.specs.View.{HeightsAreBounded, HeightsRise, HeightsRiseSlowly, MarginsAreRoundedUp, SixteenthsAreRoundedDown, WindowHasNearPlaces};
+ghost use Rattle.viewport.specs.Plain.{PlainViewsShowTheirArea};
+ghost use Rattle.viewport.specs.View.{BeginningsAreRoundedDown, BlocksArePartsOfTheWhole, HeightsAreBounded, HeightsRise, HeightsRiseSlowly, MarginsAreRoundedUp};
+ghost use Rattle.viewport.specs.View.{SixteenthsAreRoundedDown, WindowHasNearPlaces};
 
 /// Sixteenths are rounded down: they are the greatest number that isn't more than the part's share.
 pub fn sixteenths()
@@ -13,7 +15,23 @@ pub fn margins()
     ensures { MarginsAreRoundedUp }
 {}
 
-/// The window of a margin has each place whose pixel is in the picture. It also has those whose pixel is
+/// What lies before a column is rounded down: it is the greatest number of millionths of a degree that isn't more than
+/// its share.
+pub fn beginnings()
+    ensures { BeginningsAreRoundedDown }
+{}
+
+/// A view by a picture of its own has the points of its area, and the area widened by a margin as its window.
+pub fn plain()
+    ensures { PlainViewsShowTheirArea }
+{}
+
+/// The points of a block are those of the whole picture, less its first column and row.
+pub fn blocks()
+    ensures { BlocksArePartsOfTheWhole }
+{}
+
+/// The window of a margin has each place whose pixel is on the canvas. It also has those whose pixel is
 /// at most `margin` columns left or right of it, and at most `margin` rows above or below it.
 pub fn window()
     ensures { WindowHasNearPlaces }

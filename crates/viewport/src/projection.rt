@@ -1,4 +1,4 @@
-ghost use Rattle.std.specs.Prelude.{◌≡◌, ◌<◌, ◌≤◌, ◌*◌, ◌^◌, pos, ◌-ℤ◌, IsTrue};
+ghost use Rattle.std.specs.Prelude.{◌≡◌, ◌<◌, ◌≤◌, ◌*◌, ◌^◌, IsTrue};
 ghost use Rattle.geom.specs.Device.{pixel_of};
 ghost use Rattle.geom.specs.Range.{IsBelow};
 ghost use Rattle.geom.specs.World.{IsCoordinate, IsExtent};
@@ -32,8 +32,7 @@ impl Model for Projection {
 }
 
 impl Projection {
-    ghost use Rattle.geom.specs.Side.{IsPictureSide};
-    ghost use Rattle.viewport.specs.View.{device_point, height_of, sixteenths, window};
+    ghost use Rattle.viewport.specs.View.{IsView, across_of, device_point, down_of, window};
     ghost use Rattle.viewport.specs.declared.view.TheConstants.{MAX_MARGIN};
 
     /// The projection of a view. The call divides for the two axes, so callers make it once for a picture.
@@ -44,12 +43,14 @@ impl Projection {
         Projection {
             view,
             across: Axis::new(
-                16 * u64::from(view.width().pixels()),
+                16 * u64::from(view.columns()),
                 span(area.minx(), area.maxx()),
+                16 * u64::from(view.left()),
             ),
             down: Axis::new(
-                16 * u64::from(view.height().pixels()),
+                16 * u64::from(view.rows()),
                 span(area.miny(), area.maxy()),
+                16 * u64::from(view.top()),
             ),
         }
     }
@@ -76,30 +77,43 @@ impl Projection {
         self.view.area()
     }
 
-    /// How many columns of pixels the picture has.
+    /// How many columns of pixels the whole picture has.
+    pub fn columns(&self) -> u16
+        ensures value { result ≡ self.now.columns }
+        ensures limits { IsView self.now }
+    {
+        self.view.columns()
+    }
+
+    /// How many rows of pixels the whole picture has.
+    pub fn rows(&self) -> u16
+        ensures value { result ≡ self.now.rows }
+        ensures limits { IsView self.now }
+    {
+        self.view.rows()
+    }
+
+    /// How many columns of pixels the canvas has.
     pub fn width(&self) -> PictureSide
         ensures { result ≡ self.now.width }
     {
         self.view.width()
     }
 
-    /// How many rows of pixels the picture has.
+    /// How many rows of pixels the canvas has.
     pub fn height(&self) -> PictureSide
         ensures { result ≡ self.now.height }
     {
         self.view.height()
     }
 
-    /// The part of the world that the picture shows, and `margin` pixels on each side of it: what `View::window` gives.
+    /// The part of the world that the canvas shows, and `margin` pixels on each side of it: what `View::window` gives.
     pub fn window(&self, margin: u16) -> WorldBox
         requires { margin ≤ MAX_MARGIN }
         ensures value { result ≡ window self.now margin }
-        ensures limits { IsExtent self.now.area }
-        ensures width { IsPictureSide self.now.width }
-        ensures height { IsPictureSide self.now.height }
+        ensures limits { IsView self.now }
     {
-        let _area = self.view.area();
-        let _sides = (self.view.width().pixels(), self.view.height().pixels());
+        let _columns = self.view.columns();
         self.view.window(margin)
     }
 
@@ -117,9 +131,9 @@ impl Projection {
         self.device(place).pixel()
     }
 
-    /// How far a longitude is from the left, in sixteenths of a pixel.
+    /// How far a longitude is from the left of the canvas, in sixteenths of a pixel.
     pub fn across(&self, longitude: Coordinate) -> i64
-        ensures value { result ≡ sixteenths self.now.width (longitude -ℤ self.now.area.minx) (self.now.area.maxx -ℤ self.now.area.minx) }
+        ensures value { result ≡ across_of self.now longitude }
         ensures range { IsBelow (2 ^ 47) result }
     {
         let area = self.view.area();
@@ -127,12 +141,9 @@ impl Projection {
             .sixteenths(difference(longitude.get(), area.minx()))
     }
 
-    /// How far a latitude is from the top, in sixteenths of a pixel.
+    /// How far a latitude is from the top of the canvas, in sixteenths of a pixel.
     pub fn down(&self, latitude: Coordinate) -> i64
-        ensures value { result
-            ≡ sixteenths self.now.height
-            (self.now.area.maxy -ℤ height_of self.now.heights latitude)
-            (self.now.area.maxy -ℤ self.now.area.miny) }
+        ensures value { result ≡ down_of self.now latitude }
         ensures range { IsBelow (2 ^ 47) result }
     {
         let area = self.view.area();
@@ -140,13 +151,13 @@ impl Projection {
             .sixteenths(below(area.maxy(), self.view.heights().of(latitude)))
     }
 
-    /// About the southernmost latitude that still lies at the pixel centres of a row, counted from the top, or above
-    /// them. It is a guess, of which nothing is proved: the caller tests it.
+    /// About the southernmost latitude that still lies at the pixel centres of a row of the canvas, counted from its top,
+    /// or above them. It is a guess, of which nothing is proved: the caller tests it.
     pub fn about_south(&self, row: u16) -> Coordinate {
         let area = self.view.area();
         let whole = span(area.miny(), area.maxy());
-        let sixteenths = 16 * u64::from(row) + 9;
-        let below = (sixteenths * whole - 1) / (16 * u64::from(self.view.height().pixels()));
+        let sixteenths = 16 * (u64::from(self.view.top()) + u64::from(row)) + 9;
+        let below = (sixteenths * whole - 1) / (16 * u64::from(self.view.rows()));
         southward(self.view.heights(), area.maxy(), below)
     }
 

@@ -2,9 +2,10 @@ ghost use Rattle.std.specs.Prelude.{◌≡◌, ◌≤◌, ◌<◌, ◌^◌, pos,
 ghost use Rattle.geom.specs.Device.{pixel_of};
 ghost use Rattle.geom.specs.Range.{IsBelow, IsWithin};
 ghost use Rattle.geom.specs.World.{IsCoordinate, IsExtent};
-ghost use Rattle.viewport.specs.View.{north_of, shown_by, south_of};
+ghost use Rattle.viewport.specs.View.{IsFine, IsOnSide, IsView, block_of, fine_view, plain_view, shown_before, shown_by};
 ghost use Rattle.viewport.specs.declared.view.TheConstants.{MAX_MARGIN};
 
+use crate::fine::{Factor, Stretch};
 use crate::heights::Heights;
 use crate::projection::Projection;
 use geom::{Device, Micro, PictureSide, Pixel, World, WorldBox};
@@ -13,51 +14,113 @@ use std::marker::Model;
 /// The most pixels that a window has on each side of the picture.
 pub const MAX_MARGIN: u16 = 4_096;
 
-/// A view: the part of the world that is shown, and the sides of the picture that shows it. The area
-/// is an extent of the world.
+/// A view: the part of the world that is shown, the sides of the whole picture that shows it, and the block of that
+/// picture which is its canvas. The area is an extent of the world.
 #[derive(Clone, Copy)]
 pub struct View {
     heights: Heights,
     area: WorldBox,
+    columns: u16,
+    rows: u16,
+    left: u16,
+    top: u16,
     width: PictureSide,
     height: PictureSide,
+    factor: u8,
 }
 
 impl Model for View {
-    ghost use Rattle.geom.specs.World.{IsExtent};
-    ghost use Rattle.viewport.specs.View.{ViewValue};
+    ghost use Rattle.viewport.specs.View.{IsView, ViewValue};
 
     ghost Value = { ViewValue };
 
-    ghost view = { λ v. record { heights = v.heights; area = v.area; width = v.width; height = v.height } };
+    ghost view = { λ v. record {
+      heights = v.heights;
+      area = v.area;
+      columns = v.columns;
+      rows = v.rows;
+      left = v.left;
+      top = v.top;
+      width = v.width;
+      height = v.height;
+      factor = v.factor;
+    } };
 
-    ghost invariant = { λ v. IsExtent v.area };
+    ghost invariant = { λ v. IsView (record {
+      heights = v.heights;
+      area = v.area;
+      columns = v.columns;
+      rows = v.rows;
+      left = v.left;
+      top = v.top;
+      width = v.width;
+      height = v.height;
+      factor = v.factor;
+    }) };
 
-    ghost inverse = { λ v. record { heights = v.heights; area = v.area; width = v.width; height = v.height } };
+    ghost inverse = { λ v. record {
+      heights = v.heights;
+      area = v.area;
+      columns = v.columns;
+      rows = v.rows;
+      left = v.left;
+      top = v.top;
+      width = v.width;
+      height = v.height;
+      factor = v.factor;
+    } };
 }
 
 impl View {
     ghost use Rattle.viewport.specs.View.{device_point, window};
 
-    /// The view of an area, an extent of the world, by a picture of that many columns and rows.
+    /// The view of an area, an extent of the world, by a picture of that many columns and rows, all of which is the
+    /// canvas. A pixel is one of the map's.
     pub fn new(heights: Heights, area: WorldBox, width: PictureSide, height: PictureSide) -> Self
         requires { IsExtent area }
-        ensures { result ≡ record { heights = heights; area = area; width = width; height = height } }
+        ensures { result ≡ plain_view heights area width height }
     {
         View {
             heights,
             area,
+            columns: width.pixels(),
+            rows: height.pixels(),
+            left: 0,
+            top: 0,
             width,
             height,
+            factor: 1,
         }
     }
 
-    // Whether it shows the same part of the world by a picture with the same sides.
+    // The view by a block of the picture that is so many times as fine.
+    pub(crate) fn fine_block(self, factor: Factor, across: Stretch, down: Stretch) -> Self
+        requires fine { IsFine self factor }
+        requires across { IsOnSide (fine_view self factor).columns across.first across.count }
+        requires down { IsOnSide (fine_view self factor).rows down.first down.count }
+        ensures { result ≡ block_of (fine_view self factor) across down }
+    {
+        let times = factor.times();
+        View {
+            columns: u16::from(times) * self.columns,
+            rows: u16::from(times) * self.rows,
+            left: across.first,
+            top: down.first,
+            width: across.count,
+            height: down.count,
+            factor: times,
+            ..self
+        }
+    }
+
+    // Whether it shows the same part of the world by the same block of the same picture.
     pub(crate) fn is_same(self, other: View) -> bool
         ensures { IsTrue result → other ≡ self }
     {
         self.heights == other.heights
             && are_same(self.area, other.area)
+            && (self.columns, self.rows, self.factor) == (other.columns, other.rows, other.factor)
+            && (self.left, self.top) == (other.left, other.top)
             && self.width.pixels() == other.width.pixels()
             && self.height.pixels() == other.height.pixels()
     }
@@ -77,18 +140,58 @@ impl View {
         self.area
     }
 
-    /// How many columns of pixels the picture has.
+    /// How many columns of pixels the whole picture has.
+    pub fn columns(self) -> u16
+        ensures value { result ≡ self.columns }
+        ensures limits { IsView self }
+    {
+        self.columns
+    }
+
+    /// How many rows of pixels the whole picture has.
+    pub fn rows(self) -> u16
+        ensures value { result ≡ self.rows }
+        ensures limits { IsView self }
+    {
+        self.rows
+    }
+
+    /// Which column of the whole picture is the first of the canvas.
+    pub fn left(self) -> u16
+        ensures value { result ≡ self.left }
+        ensures limits { IsView self }
+    {
+        self.left
+    }
+
+    /// Which row of the whole picture is the first of the canvas.
+    pub fn top(self) -> u16
+        ensures value { result ≡ self.top }
+        ensures limits { IsView self }
+    {
+        self.top
+    }
+
+    /// How many columns of pixels the canvas has.
     pub fn width(self) -> PictureSide
         ensures { result ≡ self.width }
     {
         self.width
     }
 
-    /// How many rows of pixels the picture has.
+    /// How many rows of pixels the canvas has.
     pub fn height(self) -> PictureSide
         ensures { result ≡ self.height }
     {
         self.height
+    }
+
+    /// How many pixels of the picture a map's pixel is, in both directions.
+    pub fn factor(self) -> u8
+        ensures value { result ≡ self.factor }
+        ensures limits { IsView self }
+    {
+        self.factor
     }
 
     /// Where a place lies on the picture, or off it. It makes a projection for this one place.
@@ -105,27 +208,58 @@ impl View {
         self.device(place).pixel()
     }
 
-    /// The part of the world that the picture shows, and `margin` pixels on each side of it, rounded
-    /// up to a millionth of a degree. It may reach beyond 1,000 degrees. By `laws::window` it has each
-    /// place whose pixel is at most so many columns and rows off the picture.
+    /// The part of the world that the canvas shows, and `margin` pixels on each side of it, rounded outwards to a
+    /// millionth of a degree. It may reach beyond 1,000 degrees. By `laws::window` it has each place whose pixel is at
+    /// most so many columns and rows off the canvas.
     pub fn window(self, margin: u16) -> WorldBox
         requires { margin ≤ MAX_MARGIN }
         ensures { result ≡ window self margin }
     {
-        let View {
-            heights,
-            area,
-            width,
-            height,
-        } = self;
-        let across = shown_by(margin, width, span(area.minx(), area.maxx()));
-        let down = shown_by(margin, height, span(area.miny(), area.maxy()));
         WorldBox::new(
-            less(area.minx(), across),
-            south_side(heights, area.miny(), down),
-            more(area.maxx(), across),
-            north_side(heights, area.maxy(), down),
+            self.west(margin),
+            self.south(margin),
+            self.east(margin),
+            self.north(margin),
         )
+    }
+
+    // The four sides of the window.
+    fn west(self, margin: u16) -> Micro
+        requires { margin ≤ MAX_MARGIN }
+        ensures { result ≡ (window self margin).minx }
+    {
+        let (low, high) = (self.area.minx(), self.area.maxx());
+        let column = before(self.left, margin);
+        more(low, shown_before(column, self.columns, span(low, high)))
+    }
+
+    fn east(self, margin: u16) -> Micro
+        requires { margin ≤ MAX_MARGIN }
+        ensures { result ≡ (window self margin).maxx }
+    {
+        let (low, high) = (self.area.minx(), self.area.maxx());
+        let column = self.left + self.width.pixels() + margin;
+        more(low, shown_by(column, self.columns, span(low, high)))
+    }
+
+    fn south(self, margin: u16) -> Micro
+        requires { margin ≤ MAX_MARGIN }
+        ensures { result ≡ (window self margin).miny }
+    {
+        let (low, high) = (self.area.miny(), self.area.maxy());
+        let row = self.top + self.height.pixels() + margin;
+        let by = shown_by(row, self.rows, span(low, high));
+        Micro::new(self.heights.south(less(high, by).millionths()))
+    }
+
+    fn north(self, margin: u16) -> Micro
+        requires { margin ≤ MAX_MARGIN }
+        ensures { result ≡ (window self margin).maxy }
+    {
+        let (low, high) = (self.area.miny(), self.area.maxy());
+        let row = before(self.top, margin);
+        let by = shown_before(row, self.rows, span(low, high));
+        Micro::new(self.heights.north(less(high, by).millionths()))
     }
 }
 
@@ -169,51 +303,56 @@ pub(crate) fn span(low: Micro, high: Micro) -> u64
     difference(high, low).unsigned_abs()
 }
 
-// How many millionths of a degree so many pixels show, of a side that shows a span, rounded up.
-#[tactic(auto, unfolding(crate::specs::View::shown_by))]
-fn shown_by(margin: u16, side: PictureSide, span: u64) -> u64
+// The column or row that is a margin before one.
+fn before(first: u16, margin: u16) -> i64
+    requires first { first ≤ 2 ^ 13 }
     requires margin { margin ≤ MAX_MARGIN }
-    requires span { span < 2 ^ 31 }
-    ensures value { result ≡ shown_by margin side span }
-    ensures range { result < 2 ^ 44 }
+    ensures value { result ≡ pos first -ℤ pos margin }
+    ensures range { IsBelow (2 ^ 14) result }
 {
-    (u64::from(margin) * span).div_ceil(u64::from(side.pixels()))
+    i64::from(first) - i64::from(margin)
 }
 
-// A coordinate less a number of millionths.
-fn less(a: Micro, by: u64) -> Micro
-    requires a { IsCoordinate a }
-    requires by { by < 2 ^ 44 }
-    ensures value { result ≡ a -ℤ pos by }
-    ensures range { IsBelow (2 ^ 46) result }
+// How many millionths of a degree so many pixels show, of a side that shows a span, rounded up.
+#[tactic(auto, unfolding(crate::specs::View::shown_by))]
+fn shown_by(count: u16, side: u16, span: u64) -> i64
+    requires count { count < 2 ^ 14 }
+    requires side { 1 ≤ side }
+    requires span { span < 2 ^ 31 }
+    ensures value { result ≡ pos (shown_by count side span) }
+    ensures range { IsBelow (2 ^ 45) result }
 {
-    Micro::new(a.millionths() - by as i64)
+    (u64::from(count) * span).div_ceil(u64::from(side)) as i64
+}
+
+// How many millionths of a degree lie before a column, of a side that shows a span, rounded down.
+#[tactic(auto, unfolding(crate::specs::View::shown_before))]
+fn shown_before(column: i64, side: u16, span: u64) -> i64
+    requires column { IsBelow (2 ^ 14) column }
+    requires side { 1 ≤ side }
+    requires span { span < 2 ^ 31 }
+    ensures value { result ≡ shown_before column side span }
+    ensures range { IsBelow (2 ^ 45) result }
+{
+    (column * span as i64).div_euclid(i64::from(side))
 }
 
 // A coordinate plus a number of millionths.
-fn more(a: Micro, by: u64) -> Micro
+fn more(a: Micro, by: i64) -> Micro
     requires a { IsCoordinate a }
-    requires by { by < 2 ^ 44 }
-    ensures value { result ≡ a +ℤ pos by }
+    requires by { IsBelow (2 ^ 45) by }
+    ensures value { result ≡ a +ℤ by }
     ensures range { IsBelow (2 ^ 46) result }
 {
-    Micro::new(a.millionths() + by as i64)
+    Micro::new(a.millionths() + by)
 }
 
-// A latitude south of all that lie no more than so far below a height.
-fn south_side(heights: Heights, low: Micro, by: u64) -> Micro
-    requires low { IsCoordinate low }
-    requires by { by < 2 ^ 44 }
-    ensures { result ≡ south_of heights (low -ℤ pos by) }
+// A coordinate less a number of millionths.
+fn less(a: Micro, by: i64) -> Micro
+    requires a { IsCoordinate a }
+    requires by { IsBelow (2 ^ 45) by }
+    ensures value { result ≡ a -ℤ by }
+    ensures range { IsBelow (2 ^ 46) result }
 {
-    Micro::new(heights.south(less(low, by).millionths()))
-}
-
-// A latitude north of all that lie no more than so far above a height.
-fn north_side(heights: Heights, high: Micro, by: u64) -> Micro
-    requires high { IsCoordinate high }
-    requires by { by < 2 ^ 44 }
-    ensures { result ≡ north_of heights (high +ℤ pos by) }
-{
-    Micro::new(heights.north(more(high, by).millionths()))
+    Micro::new(a.millionths() - by)
 }

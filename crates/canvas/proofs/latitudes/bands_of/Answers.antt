@@ -1,16 +1,14 @@
 use Rattle.std.proofs.Common.{◌≡◌, ◌∙◌, ℕ, ◌+◌, ◌-◌, ◌<◌, ◌≤◌, List, [], ◌∷◌, ◌++◌, length, get_or, refl, ap, arith, ⊎_elim}
 use Rattle.std.proofs.lemmas.Bool.{cases_lt}
 use Rattle.std.proofs.lemmas.List.{get_or-append_right, get_or_append_left, length-append}
-use lib.IntN.{ℤ}
-use Rattle.viewport.specs.declared.heights.Heights.{Heights}
+use Rattle.viewport.specs.View.{ViewValue}
 use Rattle.canvas.specs.Latitudes.{AreBands, IsBand}
 use Rattle.canvas.specs.declared.latitudes.Band.{Band}
 use Rattle.canvas.proofs.latitudes.bands_of.Goals as goal
 
 -- the band of one more row
-bands-more : (heights : Heights) (south north : ℤ) (height row : ℕ) (bands : List Band) (band : Band) → length bands ≡ row → AreBands heights south north height bands → IsBand heights south north height row band →
-    AreBands heights south north height (bands ++ band ∷ [])
-bands-more heights south north height row bands band count are is = λ k d h. ⊎_elim
+bands-more : (view : ViewValue) (row : ℕ) (bands : List Band) (band : Band) → length bands ≡ row → AreBands view bands → IsBand view row band → AreBands view (bands ++ band ∷ [])
+bands-more view row bands band count are is = λ k d h. ⊎_elim
     (λ (lt : k < length bands). rw (get_or_append_left bands (band ∷ []) d k lt) (are k d lt))
     (λ (ge : length bands ≤ k).
     let same : k ≡ row = omega (arith, h, ge, count, length-append bands (band ∷ [])) in
@@ -22,9 +20,8 @@ bands-more heights south north height row bands band count are is = λ k d h. �
 pub loop-row-preserved : goal.loop-row-preserved
 loop-row-preserved c =
     let l = c.loop-row in
-    let view = c.args.projection.now in
     let band = c.band_of.result in
     rw c.in_ok-push.ensures.items (record {
       count = length-append l.bands.items (band ∷ []) ∙ ap (λ n. n + 1) l.invariant.count;
-      each = bands-more view.heights view.area.miny view.area.maxy view.height l.row l.bands.items band l.invariant.count l.invariant.each c.band_of.ensures;
+      each = bands-more c.args.projection.now l.row l.bands.items band l.invariant.count l.invariant.each c.band_of.ensures;
     })

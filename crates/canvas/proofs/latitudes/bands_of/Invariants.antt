@@ -6,5 +6,5 @@ use Rattle.canvas.proofs.latitudes.bands_of.Given as goal
 abbrev pub invariant-loop-row : goal.invariant-loop-row
 invariant-loop-row l = record {
   count : length l.bands.items ≡ l.row;
-  each : AreBands l.projection.heights l.projection.area.miny l.projection.area.maxy l.projection.height l.bands.items;
+  each : AreBands l.projection l.bands.items;
 }

@@ -24,5 +24,5 @@ returns g c =
     let near = subst (λ (m : MapFields). AreCandidatesOf m c.args.index c.window.result found) c.requires.near c.in_ok-found.ensures in
     let are = rw c.window.ensures.value at (candidates-of scene.map c.args.index layer c.window.result found c.layer-layer.ensures near) in
     on_ok_weaker c.add_features.result
-    (λ p. found-layer scene c.args.index layer found _ _ c.layer-layer.ensures shown c.window.ensures.limits c.window.ensures.width c.window.ensures.height are p)
+    (λ p. found-layer scene c.args.index layer found _ _ c.layer-layer.ensures shown c.window.ensures.limits are p)
     (rw c.deref.ensures.value at c.add_features.ensures)

@@ -23,6 +23,6 @@ returns g c =
     let are = rw (c.window.ensures.value, margin) at (candidates-of scene.map c.args.index layer c.window.result found c.layer-layer.ensures near) in
     on_ok_weaker c.draw_features.result
     (λ p. drawn-chosen scene c.args.index layer _ _ c.layer-layer.ensures
-    (rw shown (spared-drawing scene layer found _ _ c.window.ensures.limits c.window.ensures.width c.window.ensures.height
+    (rw shown (spared-drawing scene layer found _ _ c.window.ensures.limits
     c.requires.width c.requires.height c.requires.area are p)))
     (rw c.deref.ensures.value at c.draw_features.ensures)

@@ -24,5 +24,5 @@ returns g c =
     let candidates : AreCandidates layer.features area found = rw c.layer-fields.ensures at of-map in
     IfOk-weaker c.first_hits.result (AreFirstAmong (IsHitAt scene layer asked.column asked.row) asked.count found) (AreHitsOf scene c.args.asked.layer asked.column asked.row asked.count)
     (λ hits first. rw c.layer-fields.ensures
-    (first-of-all scene layer asked.column asked.row asked.count found hits c.window.ensures.limits c.window.ensures.width c.window.ensures.height candidates first))
+    (first-of-all scene layer asked.column asked.row asked.count found hits c.window.ensures.limits candidates first))
     c.first_hits.ensures

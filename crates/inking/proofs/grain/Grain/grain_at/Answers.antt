@@ -24,3 +24,7 @@ returns-in-Latitudes-clause-row c =
     rw c.requires.at at c.requires.top in
     rw (c.requires.at, word (2 ^ 31) down (omega arith) are.rows.most)
     (flat-row view down down place.y c.args.top are.area are.rows are.rows.least fits c.requires.few top)
+
+pub returns-in-Mercator-clause-row : goal.returns-in-Mercator-clause-row
+returns-in-Mercator-clause-row c =
+    rw (word (2 ^ 31) c.guessed_grain.result (omega arith) c.guessed_grain.ensures.most) c.guessed_grain.ensures.row

@@ -1,4 +1,4 @@
-use Rattle.std.proofs.Common.{◌≡◌, ◌∙◌, ◌^◌, arith, pos, ◌*ℤ◌, ◌-ℤ◌, ap}
+use Rattle.std.proofs.Common.{◌≡◌, ◌∙◌, ◌*◌, ◌^◌, arith, pos, ◌*ℤ◌, ◌-ℤ◌, ap}
 use Rattle.std.proofs.lemmas.Int.{ints}
 use Rattle.std.specs.Int.{int_div_euclid}
 use Rattle.geom.specs.Range.{IsBelow}
@@ -16,5 +16,5 @@ returns-clause-value c =
     let part : c.below.result ≡ v.area.maxy -ℤ height_of v.heights c.args.latitude =
     rw (c.below.ensures.value, word-below c.of.result height, c.of.ensures.value, c.heights.ensures, c.maxy.ensures) (ap (λ (a : Area). a.maxy -ℤ height_of v.heights c.args.latitude) c.area-area.ensures.value) in
     rw (word-below c.sixteenths.result c.sixteenths.ensures.range, ← c.self.view_is)
-    (axis-sixteenths v.height (v.area.maxy -ℤ height_of v.heights c.args.latitude) v.area.miny v.area.maxy c.sixteenths.result c.self.inside.down c.self.invariant.down c.self.invariant.area.rows
-    (c.sixteenths.ensures.value ∙ ap (λ z. int_div_euclid (pos c.self.inside.down.times *ℤ z) (pos c.self.inside.down.whole)) (word-below c.below.result size ∙ part)))
+    (axis-sixteenths v.rows (16 * v.top) (v.area.maxy -ℤ height_of v.heights c.args.latitude) v.area.miny v.area.maxy c.sixteenths.result c.self.inside.down c.self.invariant.down c.self.invariant.limits.area.rows
+    (c.sixteenths.ensures.value ∙ ap (λ z. int_div_euclid (pos c.self.inside.down.times *ℤ z) (pos c.self.inside.down.whole) -ℤ pos c.self.inside.down.first) (word-below c.below.result size ∙ part)))

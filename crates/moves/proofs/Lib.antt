@@ -1,0 +1,9 @@
+pub mod Edges
+pub mod Lines
+pub mod Lists
+pub mod Numbers
+pub mod Rings
+pub mod Rounds
+pub mod Segments
+pub mod Stamps
+pub mod Texts

@@ -1,0 +1,8 @@
+pub mod Between
+pub mod Blocks
+pub mod Equal
+pub mod Grouping
+pub mod Joining
+pub mod Summing
+pub mod Plain
+pub mod Sharing

@@ -1,0 +1,7 @@
+pub mod Blocks
+pub mod Columns
+pub mod Fine
+pub mod Laws
+pub mod Mean
+pub mod Shares
+pub mod Sums

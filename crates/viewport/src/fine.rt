@@ -1,0 +1,117 @@
+ghost use Rattle.std.specs.Prelude.{◌≡◌};
+ghost use Rattle.viewport.specs.View.{IsOnSide, block_of, factor_by, fine_by};
+ghost use Rattle.viewport.specs.declared.fine.TheConstants.{MAX_FACTOR};
+
+use crate::view::{View, difference};
+use geom::PictureSide;
+use std::marker::Model;
+
+/// The most pixels of a fine picture that a map's pixel is, in both directions.
+pub const MAX_FACTOR: u8 = 4;
+
+/// How many times as fine a picture is in both directions: 1 to `MAX_FACTOR`.
+#[derive(Clone, Copy)]
+pub struct Factor {
+    times: u8,
+}
+
+impl Model for Factor {
+    ghost use Rattle.std.specs.Prelude.{ℕ};
+    ghost use Rattle.viewport.specs.View.{IsFactor};
+
+    ghost Value = { ℕ };
+
+    ghost view = { λ f. f.times };
+
+    ghost invariant = { λ f. IsFactor f.times };
+
+    ghost inverse = { λ n. record { times = n } };
+}
+
+impl Factor {
+    ghost use Rattle.viewport.specs.View.{IsFactor};
+
+    /// That factor, if a picture may have it.
+    pub fn new(times: u8) -> Option<Self>
+        ensures { result ≡ factor_by times }
+    {
+        if times == 0 || times > MAX_FACTOR {
+            return None;
+        }
+        Some(Factor { times })
+    }
+
+    /// How many times as fine.
+    pub fn times(self) -> u8
+        ensures value { result ≡ self }
+        ensures limits { IsFactor result }
+    {
+        self.times
+    }
+}
+
+/// So many columns of a picture from one on, or so many rows: as many as a canvas may have.
+#[derive(Clone, Copy)]
+pub struct Stretch {
+    pub first: u16,
+    pub count: PictureSide,
+}
+
+/// The picture that shows what another one does, so many times as fine in both directions. It may be larger than any
+/// canvas, and is painted block by block.
+#[derive(Drop)]
+pub struct Fine {
+    view: View,
+    factor: Factor,
+}
+
+impl Model for Fine {
+    ghost use Rattle.viewport.specs.View.{IsFine, ViewValue, fine_view};
+
+    ghost Value = { ViewValue };
+
+    ghost view = { λ f. fine_view f.view f.factor };
+
+    ghost invariant = { λ f. IsFine f.view f.factor };
+}
+
+impl Fine {
+    /// The picture that is so many times as fine as that of a view, if a pixel of the view is one of the map's and each
+    /// side of its area has as many millionths.
+    pub fn new(view: View, factor: Factor) -> Option<Self>
+        ensures { result ≡ fine_by view factor }
+    {
+        let area = view.area();
+        let times = i64::from(factor.times());
+        if view.factor() == 1
+            && times <= difference(area.maxx(), area.minx())
+            && times <= difference(area.maxy(), area.miny())
+        {
+            return Some(Fine { view, factor });
+        }
+        None
+    }
+
+    /// How many columns of pixels it has.
+    pub fn columns(&self) -> u16
+        ensures { result ≡ self.now.columns }
+    {
+        u16::from(self.factor.times()) * self.view.columns()
+    }
+
+    /// How many rows of pixels it has.
+    pub fn rows(&self) -> u16
+        ensures { result ≡ self.now.rows }
+    {
+        u16::from(self.factor.times()) * self.view.rows()
+    }
+
+    /// The view by a block of it.
+    pub fn block(&self, across: Stretch, down: Stretch) -> View
+        requires across { IsOnSide self.now.columns across.first across.count }
+        requires down { IsOnSide self.now.rows down.first down.count }
+        ensures { result ≡ block_of self.now across down }
+    {
+        self.view.fine_block(self.factor, across, down)
+    }
+}
