@@ -1,4 +1,4 @@
-ghost use Rattle.std.specs.Prelude.{◌≡◌, ◌<◌, ◌≤◌, [], ◌∷◌, length, sum_by, All, IfOk, IfSome};
+ghost use Rattle.std.specs.Prelude.{◌≡◌, ◌<◌, ◌≤◌, None, [], ◌∷◌, length, sum_by, All, IfOk, IfSome};
 ghost use Rattle.mapdefs.specs.MapLimits.{ClassNamesSymbolsOf, LayerNamesSymbolsOf, NamesSymbolOf};
 ghost use Rattle.mapdefs.specs.declared.limits.TheConstants.{MAX_LAYERS};
 
@@ -281,7 +281,8 @@ fn two_symbols(alloc: Global) -> Result<SharedItems<Symbol>, AllocError>
 fn map_of(alloc: Global, layers: Items<Layer>) -> Result<Map, AllocError>
     requires count { length layers ≤ MAX_LAYERS }
     requires symbols { All (LayerNamesSymbolsOf 2) layers }
-    ensures { IfOk result (λ map. map.layers ≡ layers) }
+    ensures layers { IfOk result (λ map. map.layers ≡ layers) }
+    ensures font { IfOk result (λ map. map.font ≡ None) }
 {
     let symbols = two_symbols(alloc)?;
     let mut fields = map_fields(alloc, layers);
@@ -299,7 +300,8 @@ fn layer_of_rings(alloc: Global, codes: &str, rings: &str) -> Result<Layer, Allo
 
 /// A map of two layers. The first has these codes and rings, the second paints the inner square dark.
 pub(crate) fn map_of_two(alloc: Global, codes: &str, rings: &str) -> Result<Map, AllocError>
-    ensures { IfOk result (λ map. length map.layers ≡ 2) }
+    ensures layers { IfOk result (λ map. length map.layers ≡ 2) }
+    ensures font { IfOk result (λ map. map.font ≡ None) }
 {
     let mut layers = Vec::new(alloc);
     layers.push(layer_of_rings(alloc, codes, rings)?)?;

@@ -1,0 +1,96 @@
+ghost use Rattle.std.specs.Prelude.{◌≡◌, None, length, IfSome};
+ghost use Rattle.viewport.specs.View.{IsOnSide};
+
+use crate::painted_maps::{letters_of, map_of_two};
+use compose::{PictureQuery, draw_block};
+use geom::{Micro, PictureSide, WorldBox};
+use labelcache::Cache;
+use mapdefs::{AllFeatures, Map, Picture, Rgb};
+use scaledenom::Scale;
+use scene::Scene;
+use std::alloc::{AllocError, Global};
+use test_tables::{TableFault, check_rows, numbers};
+use viewport::{Factor, Fine, Heights, Stretch, View};
+
+// The picture of four degrees by four in two pixels by two, twice as fine.
+fn fine() -> Option<Fine> {
+    let (low, high) = (Micro::new(0), Micro::new(4_000_000));
+    let side = PictureSide::with_last(1);
+    let view = View::new(
+        Heights::Latitudes,
+        WorldBox::new(low, low, high, high),
+        side,
+        side,
+    );
+    Fine::new(view, Factor::new(2)?)
+}
+
+// The scale of 0.28 degrees in a pixel.
+fn scale() -> Scale {
+    Scale::of(280_000, PictureSide::with_last(0))
+}
+
+// So many columns or rows of a side from one on, as `1,2`.
+fn stretch(text: &str, side: u16) -> Option<Stretch>
+    ensures { IfSome result (λ stretch. IsOnSide side stretch.first stretch.count) }
+{
+    let [first, count] = numbers::<2>(text, ',')?;
+    let first = u16::try_from(first).ok()?;
+    let count = PictureSide::new(u16::try_from(count).ok()?)?;
+    if first > side || count.pixels() > side - first {
+        return None;
+    }
+    Some(Stretch { first, count })
+}
+
+// The block of a picture that a view's canvas is: the first layer over white.
+fn block(alloc: Global, map: &Map, view: View) -> Result<Picture, AllocError>
+    requires layers { length map.now.layers ≡ 2 }
+    requires font { map.now.font ≡ None }
+{
+    let near = AllFeatures::of(alloc, map);
+    let scene = Scene::new(map, view, scale());
+    let asked = PictureQuery {
+        chosen: &[0],
+        background: Some(Rgb {
+            red: 255,
+            green: 255,
+            blue: 255,
+        }),
+    };
+    let labels = Cache::new(alloc);
+    let canvas = draw_block(alloc, &scene, &near, &asked, &labels, &[])?;
+    Ok(canvas.into_picture())
+}
+
+// The block for a row: its columns and rows, and the codes and the rings of a layer, in tenths of a degree.
+fn block_of_row(alloc: Global, row: &str) -> Result<String, AllocError> {
+    let (sides, layer) = row.split_once(';').unwrap_or(("", ""));
+    let (across, down) = sides.split_once(' ').unwrap_or(("", ""));
+    let (codes, rings) = layer.split_once(';').unwrap_or(("", ""));
+    let map = map_of_two(alloc, codes, rings)?;
+    let fine = fine().ok_or(AllocError)?;
+    let across = stretch(across, fine.columns()).ok_or(AllocError)?;
+    let down = stretch(down, fine.rows()).ok_or(AllocError)?;
+    letters_of(alloc, &block(alloc, &map, fine.block(across, down))?)
+}
+
+// Blocks of pictures of four fine pixels by four.
+const BLOCKS: &str = "\
+.... .##. .##. ....=0,4 0,4;polygon #/- none;10,10 30,10 30,30 10,30
+#. .. ..=2,2 1,3;polygon #/- none;10,20 30,20 30,30 10,30
+.# .#=0,2 1,2;polygon #/- none;10,10 30,10 30,30 10,30
+#. #.=2,2 1,2;polygon #/- none;10,10 30,10 30,30 10,30
+# right of a polygon, and within one
+. .=3,1 2,2;polygon #/- none;-10,-10 25,-10 25,50 -10,50
+## ##=1,2 2,2;polygon #/- none;-10,-10 55,-10 55,50 -10,50
+# a line two pixels wide, squares and a pixmap that reach into the block
+## #.=2,2 1,2;line #-2/- none;5,5 35,35
+##. ##. ...=1,3 1,3;point #--3/- none;15,25
+## ## ..=2,2 1,3;point #--3/- none;25,25
+#o .#=2,2 0,2;point #---0/- none;35,25";
+
+#[test]
+fn blocks_have_what_the_whole_picture_has(rt: HostRuntime) -> Result<(), TableFault> {
+    check_rows(rt.alloc(), BLOCKS, '=', 10, block_of_row)
+}
