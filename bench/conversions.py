@@ -5,9 +5,10 @@ Usage: conversions.py [--write]
 
 Each mapfile's report has to be the one that is stored beside it, byte by byte, and its map has to have what the table below
 says, and nothing that is kept back. Of each keyword of docs/MAPSERVER.md that MapServer reads there has to be a line in the
-report, or it has to change what is written. What the layers of items.map answer has to be what MapServer answers. With --write the reports are stored. It needs Debian's python3-mapscript,
-python3-pil and gdal-bin, and says what it skips: labels without otf2bdf, and PostGIS without a server. It ends with 1 where
-something is wrong, and with 77 where the packages aren't there.
+report, or it has to change what is written. What the layers of items.map answer has to be what MapServer answers, and labels
+have to be there for the features for which MapServer draws them. With --write the reports are stored. It needs Debian's
+python3-mapscript, python3-pil and gdal-bin, and says what it skips: labels without otf2bdf, and PostGIS without a server.
+It ends with 1 where something is wrong, and with 77 where the packages aren't there.
 """
 import importlib.machinery
 import importlib.util
@@ -25,6 +26,7 @@ sys.dont_write_bytecode = True
 sys.path.insert(0, str(TOP / "deploy" / "lib"))
 
 import keywords
+import told
 
 # What the map of a mapfile has to have, and what it must not have.
 WANTED = {
@@ -37,96 +39,18 @@ WANTED = {
     "ranges": (["COLOR 10 50 90", "COLOR 30 70 110", "COLOR 150 190 230", 'ITEMS "900;1.8"'], ["COLORRANGE"]),
     "auto": (["9 51.505", "9.0013 51.505488"], ["1001875"]),
     "substitution": (["([year] < 1990)"], ["%year%"]),
+    "limited": (['ITEMS "Ada;1990"', 'TEMPLATE "features"'], ["hunter2"]),
+    "opened": (['ITEMS "4"', 'TEMPLATE "features"'], ["swordfish"]),
+    # 2.5 degrees from corner to corner are 100 pixels of 0.025 degrees, each 2,782.987 m in 0.28 mm
+    "hidden": (["MAXSCALEDENOM 19878480.535714", "1 1 2.5 3"], ["hunter2", "1.125", "1.375", "1.625", "1.875", "6.125", "7.125", "7 7 7", "8 8 8"]),
+    "labels": (['TEXT "sesame"', 'ITEMS "one"'], ["hunter2", "xyzzy", "plugh", "plover", "swordfish", "grue"]),
     "items": (['TITLE "1" EXPRESSION ([code] = 7)', 'ITEMS "Ada;1"', 'ITEMS "Ben;2"', 'NAME "silent"', 'ITEMS "7"'], ["hunter2", "swordfish", "xyzzy", "plugh", "plover", "5.625", "6.375", "debt", "8.375"]),
 }
 
-# A mapfile in which each block is there once in a layer of each kind; one more line is laid into one of its blocks.
-BASE = """MAP
-NAME "base" EXTENT 0 0 10 10 SIZE 100 100 PROJECTION "init=epsg:4326" END
-FONTSET "{maps}/fontset.list"
-@MAP
-WEB
-@WEB
-METADATA "ows_enable_request" "*" END END
-SYMBOL NAME "mark" TYPE VECTOR POINTS 0 0 1 2 2 0 0 0 END FILLED TRUE
-@SYMBOL
-END
-LAYER NAME "mask" TYPE POLYGON FEATURE POINTS 0 0 0 4 4 4 4 0 0 0 END END CLASS STYLE COLOR 1 2 3 END END END
-{layers}
-END
-"""
-LAYER = """LAYER NAME "{kind}" TYPE {kind} STATUS ON
-PROCESSING "ITEMS=a,b"
-METADATA "wms_include_items" "a" END
-TEMPLATE "x"
-LABELITEM "b"
-CLASSITEM "a"
-@LAYER
-FEATURE
-POINTS {points} END ITEMS "1;one"
-@FEATURE
-END
-FEATURE POINTS {other} END ITEMS "2;two" END
-CLASS
-NAME "first" GROUP "g"
-@CLASS
-STYLE
-COLOR 10 20 30 OUTLINECOLOR 40 50 60 WIDTH 3 {style}
-@STYLE
-END
-LABEL
-COLOR 70 80 90 SIZE 9 TYPE TRUETYPE FONT "sans"
-@LABEL
-END
-END
-END
-"""
-SHAPES = {
-    "POINT": ("2 2", "7 7", 'SYMBOL "mark" SIZE 9'),
-    "LINE": ("1 1 2 3", "6 6 7 8", ""),
-    "POLYGON": ("1 1 1 2 2 2 2 1 1 1", "6 6 6 7 7 7 7 6 6 6", ""),
-}
-
-# How each keyword is written; those that aren't here have the value 5.
-WRITTEN = {
-    "MAP": 'CONFIG "A" "b"; EXTENT 0 0 9 9; FONTSET "{maps}/fontset.list"; IMAGECOLOR 250 240 230; IMAGETYPE PNG; LAYER NAME "m" TYPE POINT FEATURE '
-    'POINTS 1 1 END END CLASS END END; LEGEND STATUS ON END; MAXSIZE 4096; NAME "other"; OUTPUTFORMAT NAME "f" DRIVER "AGG/PNG" END; '
-    'PROJECTION "init=epsg:4326" END; QUERYMAP STATUS ON END; REFERENCE STATUS OFF IMAGE "x.png" SIZE 5 5 EXTENT 0 0 1 1 END; RESOLUTION 96; '
-    'SCALEBAR STATUS ON END; SHAPEPATH "x"; SIZE 50 50; STATUS ON; SYMBOL NAME "mark2" TYPE ELLIPSE POINTS 1 1 END END; '
-    'SYMBOLSET "{maps}/symbolset.sym"; UNITS DD; WEB METADATA "wms_title" "w" END END; DATAPATTERN "x"; DEFRESOLUTION 96; IMAGEQUALITY 50; INTERLACE ON; '
-    'TEMPLATEPATTERN "x"; TRANSPARENT ON; ANGLE 20; DEBUG 1',
-    "WEB": 'METADATA "wms_title" "w" END; VALIDATION "a" "b" END; BROWSEFORMAT "text/html"; EMPTY "x"; ERROR "x"; FOOTER "x"; HEADER "x"; IMAGEPATH "x"; '
-    'IMAGEURL "x"; LEGENDFORMAT "text/html"; LOG "x"; QUERYFORMAT "text/html"; TEMPLATE "x"; TEMPPATH "x"; MAXTEMPLATE "x"; MINTEMPLATE "x"',
-    "SYMBOL": 'NAME "mark"; TYPE ELLIPSE; IMAGE "{maps}/../../demo/names.png" TYPE PIXMAP; TRANSPARENT 0; ANCHORPOINT 0 0; FILLED FALSE; '
-    'POINTS 0 0 2 2 2 0 0 0 END; FONT "sans" CHARACTER "A" TYPE TRUETYPE; CHARACTER "A" FONT "sans" TYPE TRUETYPE; ANTIALIAS TRUE',
-    "LAYER": 'NAME "n"; TYPE POINT; CLASSITEM "b"; LABELITEM "a"; DATA "{maps}/auto.geojson"; TEMPLATE "y"; PROCESSING "BANDS=1"; METADATA "wms_title" "t" END; '
-    'CLASS END; FEATURE POINTS 3 3 END ITEMS "3;three" END; DEBUG 1; DUMP TRUE; FOOTER "x"; GROUP "g"; HEADER "x"; STATUS DEFAULT; UNITS DD; LABELCACHE OFF; '
-    'TOLERANCEUNITS METERS; EXTENT 0 0 1 1; PROJECTION "init=epsg:3857" END; VALIDATION "a" "b" END; BINDVALS "1" "x" END; CLASSGROUP "other"; '
-    'CLUSTER MAXDISTANCE 20 REGION "ellipse" END; COMPOSITE OPACITY 50 END; CONNECTION "x" CONNECTIONTYPE OGR; CONNECTIONTYPE OGR CONNECTION "x"; '
-    'CONNECTIONOPTIONS "a" "b" END CONNECTIONTYPE OGR CONNECTION "x"; ENCODING "ISO-8859-1"; FILTER ("[a]" = "1"); FILTERITEM "a" FILTER "1"; '
-    'GEOMTRANSFORM (buffer([shape],1)); GRID LABELFORMAT "DD" END; IDENTIFY TOLERANCE 5 END; JOIN NAME "j" TABLE "x" FROM "a" TO "b" TYPE ONE-TO-ONE END; '
-    'LABELREQUIRES "[mask]"; MASK "mask"; MAXFEATURES 1; OFFSITE 1 2 3; OPACITY 50; PLUGIN "x" CONNECTIONTYPE PLUGIN; POSTLABELCACHE TRUE; REQUIRES "[mask]"; '
-    'SCALETOKEN NAME "%a%" VALUES "0" "b" END END; SIZEUNITS METERS; STYLEITEM "AUTO"; TILEINDEX "x"; TILEITEM "x"; TILESRS "x"; TRANSFORM FALSE; '
-    'UTFDATA "x"; UTFITEM "a"; MINSCALEDENOM 100; MAXSCALEDENOM 100000; LABELMINSCALEDENOM 100; LABELMAXSCALEDENOM 100000; MAXGEOWIDTH 5; MINGEOWIDTH 1; '
-    'SYMBOLSCALEDENOM 10000; TOLERANCE 7',
-    "CLASS": 'EXPRESSION "1"; STYLE COLOR 3 4 5 END; LABEL COLOR 1 2 3 END; NAME "n"; TITLE "t"; STATUS OFF; TEMPLATE "x"; DEBUG 1; FALLBACK TRUE; GROUP "h"; '
-    'KEYIMAGE "x"; LEADER GRIDSTEP 5 MAXDISTANCE 30 STYLE COLOR 1 2 3 END END; METADATA "a" "b" END; TEXT "[a] x"; VALIDATION "a" "b" END; '
-    'BACKGROUNDCOLOR 1 2 3; COLOR 1 2 3; OUTLINECOLOR 1 2 3; SYMBOL "mark"; MINSCALEDENOM 100; MAXSCALEDENOM 100000',
-    "STYLE": 'COLOR 9 8 7; OUTLINECOLOR 9 8 7; SYMBOL "mark"; ANTIALIAS TRUE; ANGLE 45; ANGLEITEM "a"; BACKGROUNDCOLOR 1 2 3; COLORRANGE 0 0 0 200 200 200 DATARANGE 0 8 '
-    'RANGEITEM "a"; DATARANGE 0 8 COLORRANGE 0 0 0 200 200 200 RANGEITEM "a"; RANGEITEM "a" DATARANGE 0 8 COLORRANGE 0 0 0 200 200 200; GAP 20 SYMBOL "mark"; '
-    'INITIALGAP 5; GEOMTRANSFORM "end"; LINECAP ROUND; LINEJOIN ROUND; OFFSET 3 3; OPACITY 50; PATTERN 3 3 END; POLAROFFSET 5 45; MINSCALEDENOM 100; SIZEITEM "a"; '
-    'MAXSCALEDENOM 100000; WIDTH 7',
-    "LABEL": 'COLOR 9 8 7; OUTLINECOLOR 9 8 7; POSITION UC; PARTIALS TRUE; FORCE TRUE; ANTIALIAS TRUE; ENCODING "UTF-8"; FONT "mono"; TYPE TRUETYPE; OFFSET 3 3; '
-    'STYLE COLOR 1 2 3 END; ALIGN CENTER; ANGLE 45; BACKGROUNDCOLOR 1 2 3; BACKGROUNDSHADOWCOLOR 1 2 3; BACKGROUNDSHADOWSIZE 1 1; EXPRESSION ("[a]" = "1"); '
-    'MINSCALEDENOM 100; MAXSCALEDENOM 100000; POLAROFFSET 5 45; SHADOWCOLOR 1 2 3; SHADOWSIZE 2 2; TEXT "x [a]"; WRAP " "; SIZE 12',
-    "FEATURE": 'ITEMS "1;else"; POINTS 3 3 4 4 END; TEXT "text"; WKT "POINT(3 3)"',
-}
-# What is read by MapServer itself, and changes nothing of a layer that has its features in the mapfile.
-ALIKE = {
-    "MAP CONFIG", "MAP FONTSET", "MAP PROJECTION", "MAP SHAPEPATH", "MAP SYMBOLSET", "MAP SYMBOL", "WEB VALIDATION", "SYMBOL NAME", "SYMBOL TRANSPARENT",
-    "SYMBOL ANTIALIAS", "SYMBOL IMAGE", "LAYER CONNECTIONOPTIONS", "LAYER TILEITEM", "LAYER TILESRS", "LAYER TEMPLATE", "LAYER BINDVALS",
-    "LAYER ENCODING", "LAYER CONNECTION", "LAYER CONNECTIONTYPE", "LAYER DATA", "LAYER PLUGIN", "LAYER TILEINDEX", "CLASS TEMPLATE", "LABEL TYPE",
-}
+# The options of those of which there is no map else.
+OPTIONS = {"limited": ["--shown"], "opened": ["--open"]}
+# Those with labels, for which a font is made.
+LABELLED = {"fontset", "labels"}
 
 
 class Checks:
@@ -207,7 +131,10 @@ def with_postgis(folder, work):
 def try_mapfile(path, name, folder, checks, writes):
     """Converts a mapfile, and compares its report and its map."""
     made = folder / name
-    ran = subprocess.run([CONVERT, path, made], capture_output=True, text=True, errors="replace")
+    if options := OPTIONS.get(name):
+        ran = subprocess.run([CONVERT, path, made], capture_output=True)
+        checks.that(ran.returncode == 2 and not made.exists() and options[0].encode() in ran.stderr, f"{name}: there is a map without {options[0]}: {ran.stderr}")
+    ran = subprocess.run([CONVERT, path, made, *OPTIONS.get(name, [])], capture_output=True, text=True, errors="replace")
     if ran.returncode == 2:
         checks.that(False, f"{name}: {ran.stderr}")
         return
@@ -228,8 +155,8 @@ def try_mapfile(path, name, folder, checks, writes):
 
 def try_mapfiles(folder, checks, writes):
     for path in sorted(MAPS.glob("*.map")):
-        if path.stem == "fontset" and not (shutil.which("otf2bdf") and os.path.exists("/usr/share/fonts/truetype/dejavu/DejaVuSansMono.ttf")):
-            print("conversions: skipped: fontset.map, as otf2bdf or its fonts are missing")
+        if path.stem in LABELLED and not (shutil.which("otf2bdf") and os.path.exists("/usr/share/fonts/truetype/dejavu/DejaVuSansMono.ttf")):
+            print(f"conversions: skipped: {path.name}, as otf2bdf or its fonts are missing")
         elif path.stem == "postgis":
             if not with_postgis(folder / "postgis", lambda path: try_mapfile(path, "postgis", folder, checks, writes)):
                 print("conversions: skipped: postgis.map, as there is no PostgreSQL with PostGIS")
@@ -237,7 +164,7 @@ def try_mapfiles(folder, checks, writes):
             try_mapfile(path, path.stem, folder, checks, writes)
 
 
-GONE = """MAP NAME "gone" EXTENT 0 0 10 10 SIZE 100 100
+GONE = """MAP NAME "gone" EXTENT 0 0 10 10 SIZE 100 100 WEB METADATA "ows_enable_request" "*" END END
 LAYER NAME "missing" TYPE POINT DATA "nothere" CLASS STYLE COLOR 10 20 30 END END END
 LAYER NAME "there" TYPE LINE FEATURE POINTS 1 1 2 2 END END CLASS STYLE COLOR 40 50 60 END END END
 END
@@ -250,6 +177,15 @@ def try_missing_source(folder, checks):
     ran = subprocess.run([CONVERT, folder / "gone.map", folder / "gone"], capture_output=True, text=True)
     is_right = ran.returncode == 1 and "gone.map:2: left out: the layer missing" in ran.stdout and 'NAME "there"' in (folder / "gone" / "map.map").read_text()
     checks.that(is_right, f"a source that isn't there: {ran.returncode} {ran.stdout}{ran.stderr}")
+
+
+def try_nameless(folder, checks):
+    """With --nameless a layer without a NAME is drawn, has no TEMPLATE, and is reported as shown."""
+    made = folder / "nameless"
+    ran = subprocess.run([CONVERT, MAPS / "hidden.map", made, "--nameless"], capture_output=True, text=True)
+    layer = " ".join((made / "map.map").read_text().partition('NAME "layer1"')[2].partition("\n  LAYER\n")[0].split())
+    is_right = "1.125 1.125" in layer and "TEMPLATE" not in layer and "hunter2" not in layer and "hidden.map:6: shown: the layer without a NAME" in ran.stdout
+    checks.that(is_right, f"--nameless: the layer is {layer[:300]}, and the report {ran.stdout}")
 
 
 def try_no_class_item(folder, checks):
@@ -305,31 +241,65 @@ def try_answers(folder, checks):
     checks.that(count > 0, "items: no layer can be asked")
 
 
+# Labels
+
+LABELLED_MAP = """MAP NAME "rules" EXTENT 0 0 10 10 SIZE 300 300 WEB METADATA "ows_enable_request" "*" END END FONTSET "{maps}/fontset.list"
+LAYER NAME "a" TYPE POINT STATUS ON LABELITEM "word" PROCESSING "ITEMS=word,no" {layer}
+FEATURE POINTS 5 2 END ITEMS "oak tree;7" END
+FEATURE POINTS 5 5 END ITEMS "Fir;12.5" END
+FEATURE POINTS 5 8 END ITEMS "M\u00fcnchen;" END
+CLASS LABEL FONT "sans" TYPE TRUETYPE SIZE 9 COLOR 0 0 0 {label} END END END END
+"""
+# Each is the EXPRESSION of the label, and those of the features that have it by hand.
+RULES = {
+    "([no] > 7)": [1], "([no] >= 7 and NOT '[word]' = 'Fir')": [0], "('[word]' ~ '^[oF]')": [], "('[word]' ~ '^(o|F)')": [0, 1], "('[word]' ~* 'FIR')": [1],
+    "('[word]' =* 'OAK TREE' OR [no] = 0)": [0, 2], "(length('[word]') = 8)": [0, 2], "(length('[word]') < 8)": [1], "('[word]' in 'Fir,oak tree')": [0, 1], "([no] in '7,12.50')": [0, 1],
+    "(1 or 0 and 0)": [0, 1, 2], "(not 1 or 0)": [], "('[word]' < 'a')": [1, 2], "(upper('[word]') = 'FIR')": [1], "([no] * 2 - 1 = 13)": [0], "([no] % 2 = 1)": [],
+    "('[word]' = 7)": [], "(-[no] < -10)": [], "(0 - [no] < -10)": [1], "([no] -1 = 6)": [], "(-1 < 0)": [0, 1, 2], "('a' + '[word]' = 'aFir')": [1], "(2)": [0, 1, 2], "('[word]' ~ '')": [0, 1, 2],
+    '"Fir"': [1], '"fir"': [], '"FIR"i': [1], "{Fir,oak tree}": [0, 1], "{Fir, oak tree}": [1], "/^oak|r$/": [0, 1], "/OAK/": [], "/M..nchen/": [], "/nchen$/": [2],
+}
+
+
+def labels_of_mapserver(path):
+    """Which of the three features MapServer labels, by the pixels round each."""
+    import io
+
+    import mapscript
+    from PIL import Image
+
+    try:
+        picture = Image.open(io.BytesIO(mapscript.mapObj(str(path)).draw().getBytes())).convert("L")
+    except mapscript.MapServerError:
+        return []
+    return [at for at, down in enumerate((240, 150, 60)) if picture.crop((0, down - 30, 300, down + 30)).getextrema()[0] < 100]
+
+
+def try_labels(folder, checks):
+    """A feature has the text of a label where MapServer labels it, and nowhere else; where a rule isn't read here it has none."""
+    if not os.path.exists("/usr/share/fonts/truetype/dejavu/DejaVuSans.ttf"):
+        return print("conversions: skipped: rules of labels, as fonts-dejavu-core is missing")
+    convert, path = load_convert(), folder / "rules.map"
+    for rule, wanted in RULES.items():
+        path.write_text(LABELLED_MAP.format(maps=MAPS, layer="", label=f"EXPRESSION {rule}"))
+        report, made = converted(convert, path, folder / "rules")
+        found = [at for at, text in enumerate(("oak tree", "Fir", "M\u00fcnchen")) if f'TEXT "{text}"' in made["map.map"].decode()]
+        there, is_read = labels_of_mapserver(path), "it isn't drawn" not in report.text()
+        is_right = found == wanted and (found == there if is_read else not found)
+        checks.that(is_right, f"a label with EXPRESSION {rule}: the features {found} have it, by hand {wanted}, and MapServer's {there}")
+    for rule, wanted in (("1", 3), ("NOT 0", 3), ("(2 > 1)", 3), ("0", 0), ("![other]", 0)):
+        path.write_text(LABELLED_MAP.format(maps=MAPS, layer=f'LABELREQUIRES "{rule}"', label=""))
+        found, there = converted(convert, path, folder / "rules")[1]["map.map"].decode().count("TEXT "), len(labels_of_mapserver(path)) if "[" not in rule else 0
+        checks.that(found == wanted == there, f"LABELREQUIRES {rule}: {found} features have a text, and {there} of MapServer's")
+
+
 # Keywords
-
-
-def written(block, word):
-    """How a keyword is written."""
-    for text in WRITTEN.get(block, "").split("; "):
-        if text.split(" ")[0] == word:
-            return text.replace("{maps}", str(MAPS))
-    return f"{word} 5"
-
-
-def mapfile(block="", word="", kinds=("POINT",)):
-    """The base with a keyword, and the number of its line."""
-    layers = "".join(LAYER.format(kind=kind, points=SHAPES[kind][0], other=SHAPES[kind][1], style=SHAPES[kind][2]) for kind in kinds)
-    text = BASE.format(layers=layers, maps=MAPS)
-    lines = [line if not line.startswith("@") else written(block, word) if line == f"@{block}" else "" for line in text.splitlines()]
-    at = text.splitlines().index(f"@{block}") + 1 if block else 0
-    return "\n".join(lines) + "\n", at
 
 
 def is_told(convert, block, word, kind, base, folder):
     """Whether a keyword has a line in the report or changes what is written; nothing where MapServer refuses it."""
     import mapscript
 
-    text, at = mapfile(block, word, [kind])
+    text, at = told.mapfile(block, word, [kind])
     path = folder / "keyword.map"
     path.write_text(text)
     try:
@@ -354,21 +324,21 @@ def try_keywords(folder, checks):
 
     marks.write_font = write_font
     (folder / "base.map").write_text("")
-    for kind in SHAPES:
-        (folder / "base.map").write_text(mapfile(kinds=[kind])[0])
+    for kind in told.SHAPES:
+        (folder / "base.map").write_text(told.mapfile(kinds=[kind])[0])
         bases[kind] = converted(convert, folder / "base.map", folder / f"base_{kind}")[1]
     refused = []
     for block in keywords.COUNTS:
         for word in sorted({*keywords.COUNTS[block], *keywords.UNUSED[block], *keywords.REFUSED[block]}):
-            if f"{block} {word}" in ALIKE:
+            if f"{block} {word}" in told.ALIKE:
                 continue
-            told = None
-            for kind in SHAPES:
-                told = told or is_told(convert, block, word, kind, bases[kind], folder)
-            if told is None:
+            is_said = None
+            for kind in told.SHAPES:
+                is_said = is_said or is_told(convert, block, word, kind, bases[kind], folder)
+            if is_said is None:
                 refused.append(f"{block} {word}")
             else:
-                checks.that(told, f"{block} {word}: no line of the report speaks of it, and nothing changes: {written(block, word)}")
+                checks.that(is_said, f"{block} {word}: no line of the report speaks of it, and nothing changes: {told.written(block, word)}")
     print(f"conversions: MapServer itself refuses {len(refused)} keywords: {', '.join(refused)}")
 
 
@@ -385,7 +355,9 @@ def main():
         folder.chmod(0o755)
         try_mapfiles(folder, checks, "--write" in sys.argv)
         try_answers(folder, checks)
+        try_nameless(folder, checks)
         try_no_class_item(folder, checks)
+        try_labels(folder, checks)
         try_missing_source(folder, checks)
         try_keywords(folder, checks)
     print(f"conversions: {checks.count} looked at, {checks.wrong} wrong")

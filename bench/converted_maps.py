@@ -24,7 +24,7 @@ def main():
     wrong = 0
     for path in found:
         with tempfile.TemporaryDirectory() as folder:
-            words = [os.path.join(TOP, "deploy", "convert"), path, folder, "--same-scales", "--compare", "4", "--program", sys.argv[1]]
+            words = [os.path.join(TOP, "deploy", "convert"), path, folder, "--open", "--nameless", "--same-scales", "--compare", "4", "--program", sys.argv[1]]
             ran = subprocess.run(words, capture_output=True, text=True, errors="replace")
         worst = re.search(r"at most ([\d.]+)% of the pixels", ran.stdout)
         counted = re.search(r"\d+ changed, \d+ left out", ran.stdout)

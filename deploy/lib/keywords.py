@@ -132,6 +132,14 @@ REFUSED = {
 }
 INCLUDE = "write into the mapfile what that file has"
 
+# Keywords by which MapServer hides something at some scales or in some views, and which deploy/convert carries out in part or not.
+EXPOSED = {
+    "LAYER CLUSTER", "LAYER MINGEOWIDTH", "LAYER MAXGEOWIDTH", "LAYER MINFEATURESIZE", "CLASS MINFEATURESIZE", "LABEL MINFEATURESIZE",
+    "STYLE MINSCALEDENOM", "STYLE MAXSCALEDENOM",
+}
+# Metadata by which a layer shows the features of one time.
+TIMES = ("wms_timeitem", "ows_timeitem")
+
 # Refused keywords that go on to an END.
 REFUSED_BLOCKS = {
     "BINDVALS", "CLUSTER", "COMPOSITE", "CONNECTIONOPTIONS", "GRID", "IDENTIFY", "JOIN", "LEADER", "METADATA", "PATTERN",
@@ -186,6 +194,18 @@ METADATA_KEYS = {
 # The ends of names of metadata by which MapServer keeps something from its clients.
 ITEM_LISTS = ("_include_items", "_exclude_items")
 ADDRESS_LISTS = ("_allowed_ip_list", "_denied_ip_list")
+
+
+def access_of(owner, key):
+    """What metadata says of who is answered: that it opens requests, limits addresses of the whole map, or shows one time alone."""
+    key = key.lower()
+    is_read = key.startswith(("wms_", "ows_"))
+    found = {
+        "opens": is_read and key.endswith("_enable_request"),
+        "limits": is_read and owner == "WEB" and key.endswith(ADDRESS_LISTS),
+        "exposes": key in TIMES,
+    }
+    return {name for name, is_found in found.items() if is_found}
 
 
 def kept_back(owner, key, text):

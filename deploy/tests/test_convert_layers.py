@@ -88,7 +88,7 @@ class Looks(unittest.TestCase):
         styles.write_in_pixels(None, layer, report, Node(("m.map", 4)))
         # 10 m are 393.701 inches, at 1:2,000 0.1968505 inches of 72 pixels
         self.assertAlmostEqual(style.size, 14.173236)
-        self.assertEqual((style.width, report.changes, layer.sizeunits), (0, 1, layers.mapscript.MS_PIXELS))
+        self.assertEqual((style.width, report.changes, layer.sizeunits), (0, 1, styles.mapscript.MS_PIXELS))
 
 
 class Places(unittest.TestCase):

@@ -13,7 +13,7 @@ MAP = """MAP
   TEMPLATEPATTERN 'x'
   WEB METADATA
     'wms_title' 'LAYER'
-    'wms_abstract' 'x'
+    'wms_abstract' 'x' 'ows_denied_ip_list' '10.0.0.7' 'wfs_denied_ip_list' '10.0.0.8'
   END END
   LAYER NAME 'a' TYPE POINT
     STATUS DEFAULT
@@ -27,10 +27,10 @@ MAP = """MAP
         INITIALGAP 4
       END
     END
-  END
+    CLUSTER END END
   DEBUG 3 LAYER NAME 'b' TYPE LINE
     OFFSITE 1 2 3
-    METADATA 'wms_allowed_ip_list' '10.0.0.1' END
+    METADATA 'wms_timeextent' '2001/2009' 'wms_timeitem' 'year' END
   END
 END
 """
@@ -94,6 +94,19 @@ class Lines(unittest.TestCase):
         self.assertIn("feature 60", lines[5])
         self.assertEqual(lines[6], "0 changed, 7 left out")
 
+    def test_what_mapserver_hides_comes_last_and_is_counted_apart(self):
+        report = Report()
+        for number in range(9, 2, -1):
+            report.shows(("m.map", number), f"CLUSTER {number}: each point")
+            report.shows(("m.map", number), f"CLUSTER {number}: each point")
+        report.left_out(("m.map", 20), "GAP: no marks")
+        lines = report.text().splitlines()
+        # each of them, and not five of a kind
+        self.assertEqual(lines[0], "m.map:20: left out: GAP: no marks")
+        self.assertEqual(lines[1:8], [f"m.map:{number}: shown: CLUSTER {number}: each point" for number in range(3, 10)])
+        self.assertEqual(lines[8:], ["0 changed, 1 left out, 7 shown that MapServer hides"])
+        self.assertEqual((report.losses, report.exposed), (1, 7))
+
     def test_what_stands_at_a_place(self):
         report = Report()
         report.notes(("m.map", 3), "OPACITY: gone")
@@ -111,13 +124,22 @@ class Leftovers(Reading):
         self.assertEqual([[part.strip() for part in line] for line in found], [
             # what changes no picture and no answer is noted
             ["2", "note", "STATUS"], ["3", "note", "TEMPLATEPATTERN"], ["6", "note", 'METADATA "wms_abstract" has no effect here'],
+            ["6", "note", 'METADATA "wfs_denied_ip_list" has no effect here'],
             ["9", "left out", "STATUS"], ["11", "note", "PROCESSING BANDS=1"], ["17", "left out", "INITIALGAP"], ["21", "note", "DEBUG"], ["22", "left out", "OFFSITE"],
-            ["23", "left out", "wms_allowed_ip_list"], ["part", "3", "left out"],
+            ["23", "note", 'METADATA "wms_timeextent" has no effect here'], ["part", "3", "left out"],
+            # and last what MapServer hides
+            ["6", "shown", "ows_denied_ip_list"], ["20", "shown", "CLUSTER"], ["23", "shown", "wms_timeitem"],
         ])
+
+    def test_a_list_of_addresses_is_reported_whatever_else_is_of_its_line(self):
+        report = Report()
+        report.changed((self.path, 6), "wms_onlineresource is here")
+        leftovers.say(self.locator, report, set())
+        self.assertIn("m.map:6: shown: ows_denied_ip_list: everybody is answered", report.text())
 
     def test_layers_that_are_left_out_whole_have_no_line(self):
         lines = [line.split(":")[0] for line in self.said(gone=[0])]
-        self.assertEqual(lines, ["2", "3", "6", "21", "22", "23"])
+        self.assertEqual(lines, ["2", "3", "6", "6", "21", "22", "23", "6", "23"])
 
     def test_what_is_reported_already_has_no_second_line(self):
         report = Report()

@@ -11,7 +11,7 @@ CONSTANTS = {
 }
 loading.has_package("mapscript", **CONSTANTS)
 loading.has_package("PIL", "Image")
-from mapconvert import layers, styles
+from mapconvert import labels, layers, styles
 from mapconvert.report import Node, Report
 
 convert = loading.script("deploy/convert")
@@ -75,20 +75,39 @@ class Painting(unittest.TestCase):
     def test_what_has_no_counterpart_is_reported(self):
         self.of("LINE", style_of(color=colour(10, 20, 30, 100), patternlength=2, offsetx=3, minscaledenom=1000, rangeitem="pop"))
         self.assertEqual([line.split(":")[0] + ":" + line.split(":")[1].split(" of ")[0] for line in self.said()], [
-            "left out: PATTERN", "left out: OPACITY", "left out: OFFSET", "left out: MINSCALEDENOM", "left out: RANGEITEM without a DATARANGE",
+            "left out: PATTERN", "left out: OPACITY", "left out: OFFSET", "left out: RANGEITEM without a DATARANGE", "shown: MINSCALEDENOM",
         ])
+
+    def test_what_mapserver_paints_nothing_of_is_not_painted(self):
+        clear = style_of(color=colour(10, 20, 30), outlinecolor=colour(40, 50, 60), opacity=0)
+        self.assertEqual([self.of(kind, clear) for kind in ("LINE", "POLYGON", "POINT")], [[], [], []])
+        self.assertEqual(self.of("LINE", style_of(color=colour(10, 20, 30), width=0)), [])
+        self.assertEqual(self.of("POLYGON", style_of(color=colour(10, 20, 30), outlinecolor=colour(40, 50, 60), width=0)), [["COLOR 10 20 30"]])
+        # an outline of a line has a width of its own
+        self.assertEqual(self.of("LINE", style_of(color=colour(10, 20, 30), outlinecolor=colour(40, 50, 60), width=0, outlinewidth=2)), [["COLOR 40 50 60", "WIDTH 4"]])
+
+
+def label_of(**given):
+    """A label as MapServer has it, with its defaults."""
+    values = dict(color=colour(10, 20, 30), outlinecolor=NONE, position=110, priority=1, buffer=0, mindistance=-1, partials=0, force=0, font="sans",
+                  size=9, wrap="", numstyles=0, angle=0, anglemode=labels.mapscript.MS_NONE, rule=None, text="[name]")
+    made = SimpleNamespace(**{**values, **given})
+    made.getExpressionString, made.getTextString = lambda: made.rule, lambda: made.text
+    return made
+
+
+def labels_of(*given, requires=None, item=None):
+    """The labels of a layer whose classes have these, or none."""
+    kinds = [SimpleNamespace(number=at + 4, given=SimpleNamespace(numlabels=int(label is not None), getLabel=lambda _, label=label: label, getTextString=lambda: None))
+             for at, label in enumerate(given)]
+    return labels.Labels(SimpleNamespace(labelrequires=requires, labelitem=item), kinds, Report(), Node(("m.map", 7)))
 
 
 class Labels(unittest.TestCase):
     def label(self, **given):
-        values = dict(color=colour(10, 20, 30), outlinecolor=NONE, position=110, priority=1, buffer=0, mindistance=-1, partials=0, force=0, font="sans",
-                      size=9, wrap="", numstyles=0, angle=0, anglemode=0)
-        label = SimpleNamespace(**{**values, **given}, getExpressionString=lambda: None, getTextString=lambda: "[name]")
-        writer = layers.LayerWriter.__new__(layers.LayerWriter)
-        writer.report, writer.node, writer.options = Report(), Node(("m.map", 7)), SimpleNamespace(fonts=[])
-        writer.layer, writer.features = SimpleNamespace(labelitem=None), []
-        lines, _ = writer.label(SimpleNamespace(number=0, given=SimpleNamespace(numlabels=1, getLabel=lambda at: label)))
-        self.fonts, self.report = writer.options.fonts, writer.report
+        made = labels_of(label_of(**given))
+        lines, _ = made.lines(0, False)
+        self.fonts, self.report = made.fonts, made.report
         return lines
 
     def test_the_plainest(self):
@@ -110,6 +129,45 @@ class Labels(unittest.TestCase):
     def test_what_has_no_counterpart_is_reported(self):
         self.label(angle=30, wrap="|", numstyles=1)
         self.assertEqual(self.report.losses, 3)
+
+    def test_letters_that_are_not_drawn_are_not_black(self):
+        self.assertEqual(self.label(color=NONE, outlinecolor=colour(40, 50, 60))[:2], ["COLOR -1 -1 -1", "OUTLINECOLOR 40 50 60"])
+        for clear in (NONE, colour(10, 20, 30, 0)):
+            self.assertIsNone(self.label(color=clear), clear)
+
+
+class LabelsOfFeatures(unittest.TestCase):
+    VALUES = {"NAME": "Ada", "secret": "hunter2"}
+
+    def text(self, made, *found, given=None):
+        return made.text([(at, 0) for at in found], self.VALUES, given)
+
+    def test_the_text_is_that_of_the_first_class_with_a_label(self):
+        made = labels_of(None, label_of(text="[name]!"), label_of(text="[name]?"))
+        self.assertEqual([self.text(made, 0), self.text(made, 0, 2), self.text(made, 2, 1), made.report.changes], [None, "Ada?", "Ada?", 1])
+        self.assertEqual([self.text(made, 1, given="own"), self.text(made, 0, given="own")], ["own", "own"])
+
+    def test_an_expression_is_evaluated_for_each_feature(self):
+        made = labels_of(label_of(rule='("[NAME]" = "Ada")'), label_of(rule='("[name]" = "Ben")'), label_of(rule='"Ada"'), item="Name")
+        self.assertEqual([self.text(made, at) for at in range(3)], ["Ada", None, "Ada"])
+        # nor is it by a text of the feature's own
+        self.assertEqual([self.text(made, at, given="own") for at in range(3)], ["own", None, "own"])
+        self.assertEqual(made.report.losses, 0)
+
+    def test_a_label_whose_expression_is_not_evaluated_is_left_out(self):
+        made = labels_of(label_of(rule='("[n]" = "zzz")', text="[secret]"), item="secret")
+        self.assertIsNone(self.text(made, 0))
+        self.assertIn('left out: EXPRESSION ("[n]" = "zzz") of a LABEL: it isn\'t drawn, as [n] is no item', made.report.text())
+
+    def test_what_is_hidden_at_some_scales_is_not_shown_at_others(self):
+        made = labels_of(label_of(), label_of(rule="(1 = 2)"), label_of(rule="(1 = 2)"))
+        self.assertEqual([self.text(made, 0, 1), self.text(made, 1, 0), self.text(made, 1, 2), made.report.losses], [None, None, None, 1])
+
+    def test_labels_on_a_condition_are_left_out_unless_it_always_holds(self):
+        for requires, is_drawn in ((None, True), ("", True), ("1", True), ("(2 > 1)", True), ("0", False), ("[park]", False), ("![park]", False), ("1 OR [park]", False)):
+            made = labels_of(label_of(), requires=requires)
+            found = self.text(made, 0), made.lines(0, True)[0] is not None, made.report.losses == 0
+            self.assertEqual(found, ("Ada" if is_drawn else None, is_drawn, is_drawn), requires)
 
 
 class Layers(unittest.TestCase):

@@ -112,6 +112,26 @@ class Files(unittest.TestCase):
             self.assertEqual(found, status, source)
             self.assertIn(line, lines)
 
+    def test_the_last_line_says_how_convert_makes_a_map(self):
+        web = "MAP WEB METADATA 'ows_enable_request' '*' {} END END {} TRANSPARENT ON END"
+        layer = "LAYER NAME 'a' TYPE LINE {} CLASS LABEL MINFEATURESIZE 5 END END END"
+        plain, more = "makes a map without differences, where MapServer reads this one", "makes a map that shows more than MapServer does, as its last lines say"
+        rows = [
+            (web.format("", ""), f" {plain}"), ("MAP TRANSPARENT ON END", f" --open {more}"),
+            (web.format("'wms_allowed_ip_list' '10.1.1.1'", ""), f" --shown {more}"), (web.format("'wfs_denied_ip_list' '10.1.1.1'", ""), f" {plain}"),
+            (web.format("", "LAYER NAME 'a' TYPE LINE METADATA 'wms_denied_ip_list' 'x' END END"), f" {plain}"),
+            (web.format("", "LAYER NAME 'a' TYPE LINE METADATA 'wms_timeitem' 'x' END END"), f" {more}"),
+            (web.format("", layer.format("")), f" {more}"), (web.format("", "LAYER NAME 'a' TYPE POINT CLUSTER END END"), f" {more}"),
+        ]
+        for source, words in rows:
+            lines = self.run_on(self.write("m.map", source))[1]
+            self.assertEqual(lines[-1], f"deploy/convert m.map FOLDER{words}", source)
+
+    def test_what_an_included_file_opens_counts(self):
+        path = self.write("m.map", "MAP INCLUDE 'web' END")
+        self.write("web", "WEB METADATA 'wms_enable_request' '*' END END")
+        self.assertEqual(self.run_on(path)[1][-1], "deploy/convert m.map FOLDER makes a map without differences, where MapServer reads this one")
+
     def test_a_mapfile_that_cannot_be_read_ends_with_2(self):
         self.assertEqual(self.run_on(os.path.join(self.folder, "missing.map"))[0], 2)
         self.assertEqual(self.run_on()[0], 2)

@@ -1,13 +1,11 @@
 """The LAYER blocks of a map."""
-import mapscript
-
-from mapconvert import access, classes, shapes, texts
+from mapconvert import access, classes, hidden, shapes
 from mapconvert.classes import ITEM, both, quoted, scales
-from mapconvert.styles import Styles, colour_of, write_in_pixels
+from mapconvert.labels import Labels
+from mapconvert.styles import Styles, write_in_pixels
 
 # Under this name a feature keeps the value of the computed item, apart from one of the data that is called the same.
 COMPUTED = "\0class"
-POSITIONS = {101: "UL", 102: "LR", 103: "UR", 104: "LL", 105: "CR", 106: "CL", 107: "UC", 108: "LC", 109: "CC", 110: "AUTO"}
 KINDS = {3: "RASTER", 5: "QUERY", 6: "CIRCLE", 7: "TILEINDEX", 8: "CHART"}
 
 
@@ -50,9 +48,24 @@ class LayerWriter:
             self.report.left_out(self.place("TEMPLATE"), "TEMPLATE: its classes need an item that isn't answered")
             self.answered = []
             self.classes.decide(self.names)
-        self.sources = [self.source_of_text(kind.given) for kind in self.classes.kinds]
-        self.features = reading.features(self.text_of_label if any(self.sources) else lambda found, values: None)
+        self.labels = Labels(self.layer, self.classes.kinds, self.report, self.node)
+        self.labels.fonts = self.options.fonts
+        self.features = reading.features(self.labels.text if any(self.labels.visible) else lambda found, values, given: None)
+        self.hide_small_features()
         self.say_what_was_read(reading)
+
+    def hide_small_features(self):
+        """Carries MINFEATURESIZE out: the layer shows up to the scale at which MapServer draws its largest feature."""
+        pixels, factor = self.layer.minfeaturesize, self.options.factor
+        if pixels <= 0 or self.kind == "POINT":
+            return
+        self.features, (low, high) = hidden.drawn_by_size(self.features, pixels, self.layer.minscaledenom * factor)
+        if not self.features:
+            self.report.changed(self.place("MINFEATURESIZE"), "MINFEATURESIZE: MapServer draws no feature at the scales of the layer")
+            return
+        self.layer.maxscaledenom = both(self.layer.maxscaledenom, high / factor, min)
+        say = self.report.changed if low == high else self.report.shows
+        say(self.place("MINFEATURESIZE"), f"MINFEATURESIZE: the layer shows up to 1:{high:,.0f}, as its largest feature does" + ("" if low == high else ", and smaller ones with it"))
 
     def say_what_was_read(self, reading):
         if reading.hidden:
@@ -70,6 +83,8 @@ class LayerWriter:
     def template(self):
         """Whether the layer can be asked: by a TEMPLATE of its own, or one of each class, as no feature of another class is answered."""
         given = [kind.given.template for kind in self.classes.kinds]
+        if not self.layer.name:
+            return False
         if self.layer.template or given and all(given):
             return True
         for kind, template in zip(self.classes.kinds, given):
@@ -81,14 +96,17 @@ class LayerWriter:
         """The items that are answered to a click; none where the layer can't be asked."""
         if not self.template():
             return []
-        place = self.place("TEMPLATE")
-        if not access.is_open(self.map, self.layer, "GetFeatureInfo"):
+        place, opens = self.place("TEMPLATE"), self.options.open
+        if not access.is_open(self.map, self.layer, "GetFeatureInfo", opens):
             self.report.left_out(place, "TEMPLATE: enable_request closes GetFeatureInfo")
             return []
-        items = access.answered(self.layer, self.names)
+        items = access.answered(self.layer, self.names, opens)
         kept_back = [name for name in self.names if name not in items]
+        if items and access.is_for_gml(self.layer):
+            self.report.shows(place, f"gml_include_items: these items are answered as text, too: {some(items)}")
         if not items:
-            self.report.changed(place, f"no TEMPLATE, as no include_items has an item to answer{': ' if self.names else ''}{some(kept_back)}")
+            why = "gml_include_items is for GML alone" if access.is_for_gml(self.layer) else "no include_items has an item to answer"
+            self.report.changed(place, f"no TEMPLATE, as {why}{': ' if self.names else ''}{some(kept_back)}")
         elif kept_back:
             self.report.changed(place, f"not answered, by include_items and exclude_items: {some(kept_back)}")
         return items
@@ -101,62 +119,6 @@ class LayerWriter:
         needs_item = any(rule and not rule.startswith("(") for rule in self.classes.rules)
         used = (self.layer.classitem or "").lower() if needs_item else None
         return [name for name in self.names if name.lower() == used or f"[{name.lower()}]" in rules]
-
-    # Labels.
-
-    def source_of_text(self, kind):
-        label = kind.getLabel(0) if kind.numlabels else None
-        return label and (label.getTextString() or kind.getTextString() or (f'"[{self.layer.labelitem}]"' if self.layer.labelitem else None))
-
-    def text_of_label(self, found, values):
-        """The TEXT of a feature: that of the first of its classes that has a label."""
-        known = {name.lower(): value for name, value in values.items()}
-        made = {}
-        for at, _ in found:
-            kind, source = self.classes.kinds[at], self.sources[at]
-            if source is None:
-                continue
-            try:
-                made[kind.number] = texts.label_text(source, known)
-            except texts.NoText as why:
-                self.report.left_out(self.place("CLASS", kind.number, "TEXT"), f"TEXT {source}: {why}")
-        if len(set(made.values())) > 1:
-            self.report.changed(self.place("CLASS", max(made), "TEXT"), "a feature of several classes, at several scales, has the text of the first")
-        return next(iter(made.values()), None)
-
-    def label(self, kind):
-        """The lines of a class's label, and the label."""
-        number, given = kind.number, kind.given
-        for at in range(1, given.numlabels):
-            self.report.left_out(self.place("CLASS", number, "LABEL", at), "a second LABEL: a feature has one")
-        if given.numlabels == 0 or not (self.source_of_text(given) or any(feature.text for feature in self.features)):
-            return None, None
-        label, place = given.getLabel(0), self.place("CLASS", number, "LABEL", 0)
-        lines = [f"COLOR {colour_of(label.color)}"] if colour_of(label.color) else []
-        lines += [f"OUTLINECOLOR {colour_of(label.outlinecolor)}"] if colour_of(label.outlinecolor) else []
-        position = POSITIONS.get(label.position)
-        if position is None:
-            self.report.changed(place, "POSITION is AUTO")
-        lines += [f"POSITION {position or 'AUTO'}", f"PRIORITY {min(max(label.priority, 1), 10)}"]
-        lines += [f"BUFFER {min(max(label.buffer, 0), 64)}"] if label.buffer else []
-        lines += [f"MINDISTANCE {min(label.mindistance, 4096)}"] if label.mindistance > 0 else []
-        lines += ["PARTIALS TRUE"] if label.partials else []
-        lines += ["FORCE TRUE"] if label.force == mapscript.MS_TRUE else []
-        self.lost_of_label(label, number)
-        self.options.fonts.append((label.font, label.size if label.size > 0 else 10))
-        return lines, label
-
-    def lost_of_label(self, label, number):
-        has_wrap = label.wrap and label.wrap != "\0"
-        lost = [
-            (label.numstyles, "STYLE", "STYLE of a LABEL: it has no box and no symbol"),
-            (label.angle or label.anglemode != mapscript.MS_NONE, "ANGLE", "ANGLE: the label is level"),
-            (has_wrap, "WRAP", "WRAP: the label is one line"),
-            (label.getExpressionString(), "EXPRESSION", "EXPRESSION of a LABEL: all features of the class are labelled"),
-        ]
-        for is_lost, word, why in lost:
-            if is_lost:
-                self.report.left_out(self.place("CLASS", number, "LABEL", 0, word), why)
 
     # Blocks.
 
@@ -179,7 +141,7 @@ class LayerWriter:
         if rule is None or self.classes.is_computed:
             return False
         named = classes.BRACKETS.findall(rule) if rule.startswith("(") else [self.layer.classitem or ""]
-        return not {name.lower() for name in named} <= {name.lower() for name in access.answered(self.layer, self.names)}
+        return not {name.lower() for name in named} <= {name.lower() for name in access.answered(self.layer, self.names, self.options.open)}
 
     def written(self):
         """The parts of classes that are written: their class, their part, their rule, and a title for one of several parts."""
@@ -191,10 +153,10 @@ class LayerWriter:
 
     def class_blocks(self, chosen, has_labels):
         """The classes, with those of their styles that `chosen` takes. A label with scales of its own has a class of its own."""
-        lines = []
+        lines, has_text = [], any(feature.text for feature in self.features)
         for at, kind, part, rule, title in self.written():
             styles = chosen(at, part)
-            label, given = self.label(kind) if has_labels else (None, None)
+            label, given = self.labels.lines(at, has_text) if has_labels else (None, None)
             low, high = kind.given.minscaledenom, kind.given.maxscaledenom
             if label:
                 least = both(self.layer.labelminscaledenom, given.minscaledenom, max)

@@ -2,6 +2,7 @@
 import re
 
 import keywords
+from mapconvert import access
 
 # What is carried out, or has a line of its own where it can't be, by the block.
 CARRIED = {
@@ -11,12 +12,12 @@ CARRIED = {
     "LAYER": "NAME TYPE CLASS FEATURE METADATA PROJECTION CLASSITEM LABELITEM DATA TEMPLATE TOLERANCE MINSCALEDENOM MAXSCALEDENOM "
     "PROCESSING BINDVALS CONNECTION CONNECTIONOPTIONS CONNECTIONTYPE PLUGIN ENCODING FILTER FILTERITEM TILEINDEX TILEITEM TILESRS "
     "MAXFEATURES MASK SIZEUNITS STYLEITEM CLASSGROUP TRANSFORM LABELMINSCALEDENOM LABELMAXSCALEDENOM INCLUDE STATUS LABELCACHE "
-    "TOLERANCEUNITS",
+    "TOLERANCEUNITS REQUIRES LABELREQUIRES MINFEATURESIZE",
     "CLASS": "EXPRESSION MINSCALEDENOM MAXSCALEDENOM STYLE LABEL NAME TITLE TEXT TEMPLATE STATUS",
     "STYLE": "COLOR OUTLINECOLOR WIDTH SIZE SYMBOL COLORRANGE DATARANGE RANGEITEM PATTERN OPACITY GEOMTRANSFORM MINSCALEDENOM "
     "MAXSCALEDENOM ANGLE GAP OUTLINEWIDTH",
     "LABEL": "COLOR OUTLINECOLOR POSITION PRIORITY BUFFER MINDISTANCE PARTIALS FORCE TEXT FONT SIZE TYPE MINSCALEDENOM "
-    "MAXSCALEDENOM",
+    "MAXSCALEDENOM EXPRESSION",
     "FEATURE": "POINTS ITEMS TEXT WKT",
 }
 CARRIED = {block: set(words.split()) for block, words in CARRIED.items()}
@@ -38,8 +39,8 @@ WORDS = {
     "LAYER STATUS": "DEFAULT: it is drawn where it is asked for, and nowhere else",
     "LAYER CLUSTER": "each point stands for itself",
     "LAYER SYMBOLSCALEDENOM": "sizes are at each scale those that are written",
-    "LAYER REQUIRES": "it is drawn whatever other layers are asked for",
-    "LAYER LABELREQUIRES": "its labels are drawn whatever other layers are asked for",
+    "LAYER MINGEOWIDTH": "it is drawn in views of each width",
+    "LAYER MAXGEOWIDTH": "it is drawn in views of each width",
     "LAYER GROUP": "no name stands for the layers of a group: ask for each",
     "CLASS GROUP": "no style of that name can be asked for",
     "LAYER VALIDATION": "the defaults are taken, and clients can't give others",
@@ -69,10 +70,14 @@ def has_effect(seen):
 
 def say_metadata(seen, report):
     """Metadata that is neither written nor looked at when it is decided what is answered."""
-    if seen.word.lower().endswith("_ip_list"):
-        if not report.has(seen.place):
-            report.left_out(seen.place, f"{seen.word}: everybody is answered: write allow and deny into nginx.conf")
-    elif seen.word.lower() not in METADATA | REQUESTS:
+    word = seen.word.lower()
+    if word.startswith(access.SERVICES) and word.endswith(access.ADDRESS_LISTS):
+        # whatever else was said of this line
+        if not report.has(seen.place, seen.word):
+            report.shows(seen.place, f"{seen.word}: everybody is answered: write allow and deny into nginx.conf")
+    elif word in keywords.TIMES:
+        report.shows(seen.place, f"{seen.word}: features of all times are drawn")
+    elif word not in METADATA | REQUESTS:
         report.notes(seen.place, f'METADATA "{seen.word}" has no effect here')
 
 
@@ -94,7 +99,8 @@ def say(locator, report, gone):
             report.notes(seen.place, words_of(seen))
         elif not report.has(seen.place, seen.word):
             # several keywords may stand on one line of the file
-            report.left_out(seen.place, words_of(seen))
+            tell = report.shows if f"{seen.block} {seen.word}" in keywords.EXPOSED else report.left_out
+            tell(seen.place, words_of(seen))
 
 
 def say_setting(seen, report):

@@ -1,4 +1,4 @@
-"""What was changed and left out, with the file and line of the mapfile where it stands."""
+"""What was changed, left out, and shown that MapServer hides, with the file and line of the mapfile where it stands."""
 import os
 import re
 
@@ -107,16 +107,18 @@ class Locator:
         return layers[number] if len(layers) == count else self.map
 
 
-# So many lines of a kind are shown, and then how many more there are.
+# So many lines of a kind are printed, and then how many more there are.
 SHOWN = 5
+# The word of lines by which more is shown than by MapServer.
+EXPOSED = "shown"
 PARTICULAR = re.compile(r"\"[^\"]*\"|'[^']*'|\{[^}]*\}|\(.*\)|\[[^]]*\]|[\d.,]*\d")
 
 
 class Report:
-    """The lines of what was changed and what was left out."""
+    """The lines of what was changed, what was left out, and what is shown that MapServer hides."""
 
     def __init__(self):
-        self.lines, self.changes, self.losses = {}, 0, 0
+        self.lines, self.changes, self.losses, self.exposed = {}, 0, 0, 0
         self.words_at = {}
 
     def changed(self, place, words):
@@ -124,6 +126,10 @@ class Report:
 
     def left_out(self, place, words):
         self.losses += self.add(place, f"left out: {words}")
+
+    def shows(self, place, words):
+        """What is shown here, and MapServer hides: from some clients, at some scales, or at all."""
+        self.exposed += self.add(place, f"{EXPOSED}: {words}")
 
     def notes(self, place, words):
         self.add(place, f"note: {words}")
@@ -141,17 +147,23 @@ class Report:
         """Whether there is a line for a place, in which a word stands."""
         return any(word in words for words in self.words_at.get(place, []))
 
-    def shown(self):
-        """The lines in the order of the files, of each kind five, and how many more there are."""
-        counts = {}
+    def printed(self):
+        """The lines in the order of the files, of each kind five, and how many more there are; last what MapServer hides, each line."""
+        counts, last = {}, []
         for path, line, words in sorted(self.lines, key=lambda one: one[:2]):
+            text = f"{os.path.basename(path)}:{line}: {words}"
+            if words.startswith(f"{EXPOSED}: "):
+                last.append(text)
+                continue
             kind = PARTICULAR.sub("#", words)
             counts.setdefault(kind, []).append(words)
             if len(counts[kind]) <= SHOWN:
-                yield f"{os.path.basename(path)}:{line}: {words}"
+                yield text
         for words in counts.values():
             if len(words) > SHOWN:
                 yield f"and {len(words) - SHOWN:,} more like this: {words[SHOWN]}"
+        yield from last
 
     def text(self):
-        return "\n".join([*self.shown(), f"{self.changes:,} changed, {self.losses:,} left out"]) + "\n"
+        counted = f"{self.changes:,} changed, {self.losses:,} left out" + (f", {self.exposed:,} shown that MapServer hides" if self.exposed else "")
+        return "\n".join([*self.printed(), counted]) + "\n"

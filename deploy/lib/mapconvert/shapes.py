@@ -173,7 +173,7 @@ class Reading:
         self.hidden = self.cut_off = 0
 
     def features(self, label_text):
-        """The features. `label_text` gives the TEXT of a class, or nothing."""
+        """The features. `label_text` gives the text of one, by its classes, its values and a TEXT of its own, or nothing."""
         kept, numbers = [], {name.lower(): number for number, name in enumerate(self.names)}
         shows, most = sys.stderr.isatty(), self.layer.maxfeatures
         for count, shape in enumerate(self.source.raw(), 1):
@@ -209,7 +209,7 @@ class Reading:
             self.report.leaves_out(f"feature {number}", str(why))
             return None
         feature = features.Feature(number, values, self.kind, parts)
-        feature.classes, feature.text = found, given or label_text(found, values)
+        feature.classes, feature.text = found, label_text(found, values, given)
         return feature
 
 

@@ -73,13 +73,14 @@ class Styles:
             (style.patternlength > 0, "PATTERN", "PATTERN: the line isn't dashed"),
             (style.opacity < 100 or 0 < style.color.alpha < 255, "OPACITY", "OPACITY: what lies below doesn't show through"),
             (self.kind != "POINT" and (style.offsetx or style.offsety), "OFFSET", "OFFSET: it is painted where the feature is"),
-            (style.minscaledenom > 0, "MINSCALEDENOM", "MINSCALEDENOM of a STYLE: it shows at the scales of its CLASS"),
-            (style.maxscaledenom > 0, "MAXSCALEDENOM", "MAXSCALEDENOM of a STYLE: it shows at the scales of its CLASS"),
             (style.rangeitem and style.maxvalue <= style.minvalue, "RANGEITEM", "RANGEITEM without a DATARANGE: one colour for all values"),
         ]
         for is_lost, word, why in lost:
             if is_lost:
                 self.report.left_out(self.place(number, at, word), why)
+        for word in ("MINSCALEDENOM", "MAXSCALEDENOM"):
+            if getattr(style, word.lower()) > 0:
+                self.report.shows(self.place(number, at, word), f"{word} of a STYLE: it shows at the scales of its CLASS")
         for binding in range(mapscript.MS_STYLE_BINDING_LENGTH):
             if style.getBinding(binding):
                 why = f"[{style.getBinding(binding)}]: each value is drawn as if it weren't given"
@@ -108,6 +109,8 @@ class Styles:
         if style.symbol:
             self.report.left_out(self.place(number, at, "SYMBOL"), "SYMBOL of a line: it is a plain line of its SIZE")
         width = max(style.width, style.size) if style.symbol and style.size > 0 else style.width
+        if width <= 0:
+            return None
         return None if colour is None else [f"COLOR {colour}", f"WIDTH {self.width(number, at, width)}"]
 
     def casing(self, number, at, style):
@@ -127,9 +130,9 @@ class Styles:
             fill = self.marks.mean_colour(style)
             self.report.left_out(self.place(number, at, "SYMBOL"), f"SYMBOL of a polygon: it is filled in the mean colour {fill}")
         lines = [f"COLOR {fill}"] if fill else []
-        if outline:
-            width = max(style.width, style.size if style.symbol else 0)
-            if 0 < width < 1:
+        width = max(style.width, style.size if style.symbol else 0)
+        if outline and width > 0:
+            if width < 1:
                 thin = mixed(outline, self.ground(fill or below), width)
                 self.report.changed(self.place(number, at, "WIDTH"), f"an outline of the width {width:g} is one of 1 in the mixed colour {thin}")
                 outline, width = thin, 1
@@ -143,6 +146,9 @@ class Styles:
             style = kind.getStyle(at)
             if style.getGeomTransform():
                 self.report.left_out(self.place(number, at, "GEOMTRANSFORM"), "a STYLE with GEOMTRANSFORM")
+                continue
+            if style.opacity == 0:
+                self.report.changed(self.place(number, at, "OPACITY"), "OPACITY 0: MapServer paints nothing by this STYLE")
                 continue
             if part and style.rangeitem and style.maxvalue > style.minvalue:
                 style = self.at_part(style, part)
