@@ -5,8 +5,8 @@ Usage: proxy_keeps.py
 
 Two servers that are played stand behind it, one for the map and one for deploy/formats; a batch changes the map's picture. A
 picture has to come with an ETag, a request with that has to get 304 before the batch, and the new picture after it, once
-deploy/empty-cache was called as deploy/batch --proxy does. Each thing that is otherwise is written, and the script then ends
-with 1.
+deploy/empty-cache was called as deploy/batch --proxy does. Where deploy/formats has no answer the map's server is asked, and
+the next query comes to deploy/formats again. Each thing that is otherwise is written, and the script then ends with 1.
 """
 import http.client
 import http.server
@@ -56,7 +56,7 @@ class Server(http.server.BaseHTTPRequestHandler):
     def do_GET(self):
         is_fault = "LAYERS=fault" in self.path
         body = f"{self.server.called} {self.server.batches}".encode()
-        self.send_response(200)
+        self.send_response(self.server.status)
         self.send_header("Content-Type", "text/xml" if is_fault else "image/x-portable-pixmap")
         self.send_header("Content-Length", str(len(body)))
         self.end_headers()
@@ -68,7 +68,7 @@ class Server(http.server.BaseHTTPRequestHandler):
 
 def play(called):
     server = http.server.ThreadingHTTPServer(("127.0.0.1", 0), Server)
-    server.called, server.batches = called, 0
+    server.called, server.batches, server.status = called, 0, 200
     threading.Thread(target=server.serve_forever, daemon=True).start()
     return server
 
@@ -130,6 +130,17 @@ def try_routes(routes):
             yield f"{query} comes to {body.split()[0]} in place of {called}"
 
 
+def try_going_on(formats):
+    """What is otherwise where deploy/formats has no answer for a time."""
+    for number, query in enumerate(query for called, query in ROUTES if called == "formats"):
+        for status, called in ((502, "map"), (200, "formats"), (503, "map"), (404, "formats")):
+            formats.status = status
+            found = ask(f"/wms?{query}&{number}={status}")
+            if found[2].split()[0] != called:
+                yield f"{query} gets {found[0]} of {found[2].split()[0]} in place of {called}, where deploy/formats answers {status}"
+    formats.status = 200
+
+
 def try_own_png(folder):
     """What is otherwise where the line for PNG of the server's own stands in the configuration."""
     path = folder / "nginx.conf"
@@ -170,7 +181,7 @@ def main():
         try:
             time.sleep(0.3)
             empty_cache(folder)
-            wrong = [*try_pictures(folder, server), *try_routes(ROUTES), *try_own_png(folder), *try_paths(server)]
+            wrong = [*try_pictures(folder, server), *try_routes(ROUTES), *try_going_on(formats), *try_own_png(folder), *try_paths(server)]
         finally:
             subprocess.run([*call, "-s", "stop"], check=False, stderr=subprocess.DEVNULL)
             time.sleep(0.5)

@@ -153,9 +153,9 @@ class Trial:
         """nginx before the three, by the configuration of deploy/."""
         port = free_ports(1)[0]
         text = (TOP / "deploy" / "nginx.conf").read_text()
-        lines = "\n".join(f"        server 127.0.0.1:{server.port} fail_timeout=1s;" for server in self.servers)
+        lines = "\n".join(f"        server 127.0.0.1:{server.port} max_fails=0;" for server in self.servers)
         text = text.replace("listen 127.0.0.1:8000;", f"listen 127.0.0.1:{port};")
-        first, found, rest = text.partition("        server 127.0.0.1:8080;")
+        first, found, rest = text.partition("        server 127.0.0.1:8080 max_fails=0;")
         assert found
         (self.folder / "nginx.conf").write_text(first + lines + rest.replace("127.0.0.1:8080", f"127.0.0.1:{self.servers[0].port}"))
         (self.folder / "proxy").mkdir()

@@ -1,7 +1,10 @@
 #!/usr/bin/python3
 """How deploy/formats reads a query and what it asks the server (deploy/lib/wmsformats.py); no picture is packed here."""
+import http.server
+import itertools
 import os
 import struct
+import threading
 import unittest
 import zlib
 from types import SimpleNamespace
@@ -117,6 +120,89 @@ class Pictures(unittest.TestCase):
             self.assertEqual(struct.unpack(">IIBB", chunks[b"IHDR"][:10]), (3, 2, 8, kind))
             half = len(pixels) // 2
             self.assertEqual(zlib.decompress(chunks[b"IDAT"]), b"\0" + pixels[:half] + b"\0" + pixels[half:])
+
+
+class Played(http.server.BaseHTTPRequestHandler):
+    """A server that answers each query with its status and its name, or breaks off."""
+
+    def do_GET(self):
+        self.server.asked.append(self.path)
+        if self.server.status is None:
+            # half an answer
+            return self.wfile.write(b"HTTP/1.1 200 OK\r\nContent-Length: 100\r\n\r\nhalf")
+        self.send_response(self.server.status)
+        self.send_header("Content-Type", "text/plain")
+        self.end_headers()
+        self.wfile.write(self.server.name)
+
+    def log_message(self, *_):
+        pass
+
+
+class Servers(unittest.TestCase):
+    def play(self, name, status):
+        """The address of a server, and what it is asked; one of no status at all refuses connections."""
+        server = http.server.HTTPServer(("127.0.0.1", 0), Played)
+        server.name, server.status, server.asked = name, status, []
+        if status == "gone":
+            server.server_close()
+        else:
+            thread = threading.Thread(target=server.serve_forever, kwargs={"poll_interval": 0.01})
+            thread.start()
+            for end in (server.server_close, thread.join, server.shutdown):
+                self.addCleanup(end)
+        return f"http://127.0.0.1:{server.server_port}/wms", server.asked
+
+    def answers(self, count, *servers):
+        """The answers to so many queries, or why there is none, and how often each server was asked."""
+        played, found = [self.play(*server) for server in servers], []
+        with mock.patch.dict(os.environ, {"KESMOCH_SERVER": " ".join(address for address, _ in played)}), mock.patch.object(wmsformats, "TURNS", itertools.count()):
+            for number in range(count):
+                try:
+                    found.append(wmsformats.ask(f"a={number}")[2])
+                except wmsformats.Unanswered as why:
+                    found.append(why.args[0])
+        self.assertTrue(all(query.startswith("/wms?a=") for _, asked in played for query in asked))
+        return found, [len(asked) for _, asked in played]
+
+    def test_each_query_begins_with_another_server(self):
+        self.assertEqual(self.answers(5, (b"one", 200), (b"two", 200), (b"three", 200)), ([b"one", b"two", b"three", b"one", b"two"], [2, 2, 1]))
+
+    def test_the_next_is_asked_where_one_is_down_or_breaks_off(self):
+        for status, count in (("gone", 0), (502, 2), (503, 2), (None, 2)):
+            self.assertEqual(self.answers(4, (b"one", status), (b"two", 200)), ([b"two"] * 4, [count, 4]), status)
+
+    def test_other_answers_are_handed_on(self):
+        for status in (200, 400, 404, 500):
+            self.assertEqual(self.answers(2, (b"one", status), (b"two", 200)), ([b"one", b"two"], [1, 1]), status)
+
+    def test_where_none_answers_the_last_ones_reason_is_told(self):
+        self.assertEqual(self.answers(2, (b"one", "gone"), (b"two", 503)), ([b"two", "502 Bad Gateway"], [0, 2]))
+        self.assertEqual(self.answers(2, (b"one", "gone"), (b"two", "gone"))[0], ["502 Bad Gateway"] * 2)
+
+    def test_one_that_takes_too_long_is_waited_for_once(self):
+        faults = iter([wmsformats.Unanswered("504 Gateway Timeout", "late"), ("200 OK", "text/plain", b"two")])
+
+        def ask_one(address, query):
+            fault = next(faults)
+            if isinstance(fault, Exception):
+                raise fault
+            return fault
+
+        with mock.patch.dict(os.environ, {"KESMOCH_SERVER": "http://a/ http://b/"}), mock.patch.object(wmsformats, "ask_one", ask_one):
+            with self.assertRaises(wmsformats.Unanswered) as found:
+                wmsformats.ask("")
+        self.assertEqual(found.exception.args[0], "504 Gateway Timeout")
+
+
+class Options(unittest.TestCase):
+    def test_servers_are_named_one_by_one(self):
+        formats = loading.script("deploy/formats")
+        self.assertEqual(formats.options_of([]).server, ["http://127.0.0.1:8080/wms"])
+        self.assertEqual(formats.options_of(["--server", "http://a/", "--server", "http://b:81/wms"]).server, ["http://a/", "http://b:81/wms"])
+        rows = [("http://a/", True), ("http://127.0.0.1:8080/wms", True), ("a", False), ("https://a/", False), ("http://a:0/", False), ("http://a:x/", False), ("http://a/ http://b/", False)]
+        for text, is_right in rows:
+            self.assertIs(formats.is_address(text), is_right, text)
 
 
 class Answers(unittest.TestCase):
