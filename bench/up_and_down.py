@@ -1,10 +1,12 @@
 #!/usr/bin/env python3
 """Tries deploy/up: server, formats and proxy by one command. Usage: up_and_down.py PROGRAM [SIDE]
 
-The address that it prints has to answer pictures, /health and the viewer with its legend. Six clients ask for a picture of
-SIDE by SIDE pixels, by default 1,500, and SIGTERM comes while they read: each has to get all of it, the exit status has to
-be 0, and no process that it started may be left. A taken port and a mapfile with a fault have to end it with 2. It needs
-Debian's nginx-light, and tries PNG where gunicorn is installed. It ends with 1 where something is otherwise.
+It has to write each step, and the address that it prints has to answer pictures, /health and the viewer, later with its
+legend. At SIGHUP a changed mapfile has to be served while clients ask, each answered with 200, and one with a fault may change
+nothing. Six clients ask for a picture of SIDE by SIDE pixels, by default 1,500, and SIGTERM comes while they read: each has
+to get all of it, the exit status has to be 0, and no process that it started may be left. A taken port and a mapfile with a
+fault have to end it with 2. It needs Debian's nginx-light, and tries PNG where gunicorn is installed. It ends with 1 where
+something is otherwise.
 """
 import http.client
 import json
@@ -16,6 +18,7 @@ import signal
 import socket
 import subprocess
 import sys
+import tempfile
 import threading
 import time
 
@@ -62,9 +65,62 @@ def try_answers(port):
         yield "/health isn't answered"
     if get(port, "/")[0] != 302 or b"viewer.js" not in get(port, "/viewer/")[2]:
         yield "/ isn't the viewer"
-    status, _, body = get(port, "/viewer/legend.json")
-    if status != 200 or "lakes" not in json.loads(body)["layers"]:
-        yield f"the legend is {status}"
+    if not until(lambda: get(port, "/viewer/legend.json")[0] == 200):
+        yield "there is no legend after 30 seconds"
+    elif "lakes" not in json.loads(get(port, "/viewer/legend.json")[2])["layers"]:
+        yield "the legend has no lakes"
+
+
+def until(holds):
+    """Whether something holds within 30 seconds."""
+    end = time.monotonic() + 30
+    while not holds():
+        if time.monotonic() > end:
+            return False
+        time.sleep(0.1)
+    return True
+
+
+def title_of(port):
+    """The first title of the document."""
+    found = re.search(rb"<Title>(.*?)</Title>", get(port, "/wms?SERVICE=WMS&REQUEST=GetCapabilities")[2])
+    return found and found[1].decode()
+
+
+def ask_on(port, kind, end, otherwise):
+    """Asks for a kind of pictures, or for documents, over a new connection each time, and keeps what isn't answered with 200."""
+    number = 0
+    while not end.is_set():
+        number += 1
+        path = "/wms?" + QUERY.format(f"-10.{number:06d}", 40, 30, kind) if kind else f"/wms?SERVICE=WMS&REQUEST=GetCapabilities&x={number}"
+        try:
+            status, found, _ = get(port, path)
+            if (status, found) != (200, kind or "text/xml"):
+                otherwise.append(f"{kind}: {status} {found}")
+        except (OSError, http.client.HTTPException) as error:
+            otherwise.append(f"{kind}: {error!r}")
+
+
+def try_changes(up, port, mapfile):
+    """What is otherwise where the mapfile changes, and where it then has a fault."""
+    end, otherwise, text = threading.Event(), [], mapfile.read_text()
+    kinds = [PIXMAP, None] + (["image/png", "image/jpeg"] if shutil.which("gunicorn") else [])
+    clients = [threading.Thread(target=ask_on, args=(port, kind, end, otherwise)) for kind in kinds]
+    for client in clients:
+        client.start()
+    mapfile.write_text(text.replace('"Lakes and fields"', '"changed"'))
+    up.send_signal(signal.SIGHUP)
+    if not until(lambda: title_of(port) == "changed"):
+        yield f"the title is {title_of(port)} 30 seconds after SIGHUP"
+    mapfile.write_text(text.replace("TYPE POLYGON", "TIPE POLYGON", 1))
+    up.send_signal(signal.SIGHUP)
+    time.sleep(3)
+    if title_of(port) != "changed" or up.poll() is not None:
+        yield f"a mapfile with a fault leaves the title {title_of(port)}"
+    end.set()
+    for client in clients:
+        client.join()
+    yield from (f"while the mapfile changes {words}" for words in sorted(set(otherwise)))
 
 
 def left_of(group):
@@ -101,17 +157,31 @@ def try_stop(up, port):
             yield "something still listens"
 
 
-def try_up(program):
+def steps_of(up, port):
+    """The lines up to the address, and whether they are those of the steps."""
+    lines, last = [], f"http://127.0.0.1:{port}/ shows the map; clients take http://127.0.0.1:{port}/wms?"
+    for line in up.stdout:
+        lines.append(line.rstrip("\n"))
+        if lines[-1] == last:
+            break
+    wanted = [r"mapservd reads .*", r"mapservd serves it on port \d+, and takes batches on port \d+"]
+    wanted += [r"formats makes JPEG, WebP and PNG of it on port \d+"] if shutil.which("gunicorn") else []
+    return lines, len(lines) == len(wanted) + 1 and all(re.fullmatch(one, line) for one, line in zip(wanted, lines)) and lines[-1] == last
+
+
+def try_up(program, mapfile):
     port, mark = free_port(), f"KESMOCH_UP_AND_DOWN={os.getpid()}"
     environment = {**os.environ, **dict([mark.split("=")])}
-    up = subprocess.Popen([UP, MAP, "--port", str(port), "--program", program], stdout=subprocess.PIPE, text=True, env=environment)
-    line = up.stdout.readline()
+    words = [UP, mapfile, "--port", str(port), "--program", program]
+    up = subprocess.Popen(words, stdout=subprocess.PIPE, stderr=subprocess.DEVNULL, text=True, env=environment)
     try:
-        if not re.fullmatch(rf"http://127\.0\.0\.1:{port}/ shows the map; clients take http://127\.0\.0\.1:{port}/wms\?\n", line):
-            yield f"it prints {line!r}"
+        lines, is_right = steps_of(up, port)
+        if not is_right:
+            yield f"it prints {lines}"
             return
         yield from try_answers(port)
-        taken = subprocess.run([UP, MAP, "--port", str(port), "--program", program], capture_output=True, text=True, timeout=100)
+        yield from try_changes(up, port, mapfile)
+        taken = subprocess.run(words, capture_output=True, text=True, timeout=100)
         if taken.returncode != 2 or f"the port {port} is taken" not in taken.stderr:
             yield f"a taken port ends it with {taken.returncode}: {taken.stderr}"
         yield from try_stop(up, port)
@@ -134,7 +204,10 @@ def main():
     if len(sys.argv) not in (2, 3):
         sys.exit(__doc__.split("\n")[0])
     program = os.path.abspath(sys.argv[1])
-    wrong = [*try_up(program), *try_fault(program)]
+    with tempfile.TemporaryDirectory() as folder:
+        mapfile = pathlib.Path(folder, "lakes.map")
+        mapfile.write_text(MAP.read_text())
+        wrong = [*try_up(program, mapfile), *try_fault(program)]
     print("\n".join([*wrong, f"up_and_down: {len(wrong)} things otherwise than they should be"]))
     sys.exit(1 if wrong else 0)
 

@@ -40,7 +40,7 @@ class Packages(unittest.TestCase):
 
     def test_units_name_the_folders_of_a_package(self):
         units = os.listdir(self.path("stage/lib/systemd/system"))
-        self.assertEqual(len(units), 4)
+        self.assertEqual(len(units), 5)
         for name in units:
             text = self.read("stage/lib/systemd/system", name)
             self.assertNotIn("/usr/local/", text, name)
