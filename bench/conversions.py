@@ -188,6 +188,23 @@ def try_nameless(folder, checks):
     checks.that(is_right, f"--nameless: the layer is {layer[:300]}, and the report {ran.stdout}")
 
 
+WIDE = """MAP NAME "wide" EXTENT 0 0 10 10 SIZE 100 100 WEB METADATA "ows_enable_request" "*" END END
+SYMBOL NAME "bar" TYPE VECTOR FILLED TRUE POINTS 0 0 4 0 4 1 0 1 0 0 END END
+LAYER NAME "a" TYPE POINT FEATURE POINTS 1 1 END END CLASS STYLE SYMBOL "bar" SIZE 5 COLOR 10 20 30 END END END
+END
+"""
+
+
+def try_wide_mark(folder, checks):
+    """A mark of 20 by 5 pixels is whole: its pixmap has both its ends, and has it in its middle."""
+    (folder / "wide.map").write_text(WIDE)
+    _, made = converted(load_convert(), folder / "wide.map", folder / "wide")
+    found = re.match(rb"P6\n(\d+) (\d+)\n255\n", made.get("bar1.ppm", b""))
+    size = tuple(map(int, found.groups())) if found else None
+    # the point stands in the middle of a pixel, so that an end may reach into one more
+    checks.that(size is not None and size[0] in (19, 21) and size[1] in (5, 7), f"a mark of 20 by 5 pixels is a pixmap of {size}")
+
+
 def try_no_class_item(folder, checks):
     """With --no-class-item a layer whose classes need what isn't answered can't be asked, and has no number of the class."""
     made = folder / "no_class_item"
@@ -358,6 +375,7 @@ def main():
         try_nameless(folder, checks)
         try_no_class_item(folder, checks)
         try_labels(folder, checks)
+        try_wide_mark(folder, checks)
         try_missing_source(folder, checks)
         try_keywords(folder, checks)
     print(f"conversions: {checks.count} looked at, {checks.wrong} wrong")

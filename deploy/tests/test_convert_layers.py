@@ -11,7 +11,7 @@ CONSTANTS = {
 }
 loading.has_package("mapscript", **CONSTANTS)
 loading.has_package("PIL", "Image", "ImageChops", "ImageFilter", "ImageDraw", "ImageFont")
-from mapconvert import classes, compare, layers, shapes, styles
+from mapconvert import classes, compare, layers, marks, shapes, styles
 from mapconvert.report import Node, Report
 
 
@@ -59,6 +59,72 @@ class Rules(unittest.TestCase):
         style.maxvalue = 100
         kind = classes.Kind(0, given)
         self.assertEqual((list(kind.parts()), kind.part_of(100)), ([0], 0))
+
+
+def class_of(group=None, status=1, low=-1, high=-1):
+    """A class as MapServer has it."""
+    return SimpleNamespace(group=group, status=status, minscaledenom=low, maxscaledenom=high, numstyles=0, minfeaturesize=9)
+
+
+class Layer:
+    """A layer with classes, of which each shape has the first that shows at the scale of the map, or at all scales where that is none."""
+
+    def __init__(self, *given, group=None):
+        self.given, self.classgroup, self.classitem = list(given), group, None
+
+    @property
+    def numclasses(self):
+        return len(self.given)
+
+    def getClass(self, at):
+        return self.given[at]
+
+    def removeClass(self, at):
+        del self.given[at]
+
+    def getClassIndex(self, map, shape):
+        scale = map.scaledenom
+        shown = (at for at, one in enumerate(self.given) if scale <= 0 or one.minscaledenom < scale and not 0 < one.maxscaledenom < scale)
+        return next(shown, -1)
+
+
+def classes_of(*given, group=None):
+    return classes.Classes(SimpleNamespace(scaledenom=-1), Layer(*given, group=group), Report(), Node(("m.map", 7)))
+
+
+class Chosen(unittest.TestCase):
+    """The classes of a shape."""
+
+    def found(self, made):
+        return made.of(None, None)
+
+    def test_classes_of_a_group_keep_their_numbers_in_the_mapfile(self):
+        made = classes_of(class_of("day"), class_of("Night", low=1000), class_of("day"), class_of("night", high=1000), group="NIGHT")
+        self.assertEqual(([kind.number for kind in made.kinds], made.layer.numclasses), ([1, 3], 2))
+        self.assertEqual(self.found(made), ((1, 0), (0, 0)))
+        # as the item class names them, from 1
+        self.assertEqual([made.name(((at, 0),)) for at in range(2)], ["2", "4"])
+        self.assertEqual(made.name(self.found(made)), "4+2")
+
+    def test_all_classes_count_without_a_group(self):
+        made = classes_of(class_of("day"), class_of())
+        self.assertEqual([kind.number for kind in made.kinds], [0, 1])
+        self.assertEqual((self.found(made), {kind.given.minfeaturesize for kind in made.kinds}), (((0, 0),), {-1}))
+
+    def test_a_class_that_is_off_at_one_scale_leaves_those_of_others(self):
+        made = classes_of(class_of(high=1000), class_of(low=1000, high=5000, status=0), class_of(low=5000))
+        self.assertEqual(self.found(made), ((0, 0), (2, 0)))
+        # the smallest scale is beyond the last bound
+        self.assertEqual(self.found(classes_of(class_of(high=1000, status=0), class_of(low=1000))), ((1, 0),))
+        self.assertEqual(self.found(classes_of(class_of(status=0), class_of())), ())
+
+
+class Squares(unittest.TestCase):
+    def test_a_mark_is_cut_out_round_its_point(self):
+        # wider than high, higher than wide, beside the point, and the point alone
+        rows = [((90, 98, 111, 103), (90, 98, 111, 103)), ((98, 80, 103, 121), (98, 80, 103, 121)), ((102, 99, 131, 102), (70, 99, 131, 102)), ((100, 60, 101, 101), (100, 60, 101, 141)), ((100, 100, 101, 101), (100, 100, 101, 101))]
+        for box, cut in rows:
+            self.assertEqual(marks.around(100, box), cut, box)
 
 
 class Looks(unittest.TestCase):

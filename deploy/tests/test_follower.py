@@ -176,6 +176,23 @@ class Following(unittest.TestCase):
         self.assertIn("is of another log", self.differs(other))
         self.assertIn("is of another log", self.differs(Log()))
 
+    def test_a_note_and_its_folder_are_synced_before_anything_goes_on(self):
+        steps, sync, rename = [], os.fsync, os.rename
+
+        def synced(handle):
+            steps.append(("sync", os.readlink(f"/proc/self/fd/{handle}")))
+            sync(handle)
+
+        def renamed(before, after):
+            with open(before, encoding="utf-8") as file:
+                steps.append(("rename", after, json.load(file)["is_begun"]))
+            rename(before, after)
+
+        with follower.Server(None, None, self.path) as server, mock.patch.object(os, "fsync", synced), mock.patch.object(os, "rename", renamed):
+            server.note.keep(is_begun=True)
+        path = os.path.realpath(self.path)
+        self.assertEqual(steps, [("sync", f"{path}.new"), ("rename", self.path, True), ("sync", os.path.dirname(path))])
+
     def test_one_follower_runs_by_a_note(self):
         with follower.Server(None, None, self.path):
             with self.assertRaises(follower.InUse):

@@ -54,7 +54,8 @@ class Connection:
         pass
 
     def execute(self, words, values):
-        self.asked.append((words.split()[0], *values))
+        # psycopg2 wraps the bytes of a Binary, and gives them back as `adapted`
+        self.asked.append((words.split()[0], *(getattr(value, "adapted", value) for value in values)))
         self.answer = self.answers.pop(0)
         self.description = self.answer
         if isinstance(self.answer, Exception):
@@ -117,6 +118,47 @@ class Appending(unittest.TestCase):
             with self.assertRaises(Unanswered) as found:
                 batchlog.append("dbname=maps", b"ON a")
         self.assertEqual((made.call_count, found.exception.is_open), (1, False))
+
+
+class Engine:
+    """An engine in which the first server answers a batch right behind the first look for its answer; whoever listens then hears of it."""
+
+    def __init__(self):
+        self.looks, self.is_listening, self.is_heard, self.seconds = 0, False, False, 0.0
+
+    def __call__(self, dsn):
+        return self
+
+    def __enter__(self):
+        return self
+
+    def __exit__(self, *_):
+        pass
+
+    def listen(self, channel):
+        self.is_listening = channel == "kesmoch_answer"
+
+    def answer(self, number):
+        self.looks += 1
+        if self.looks == 1:
+            self.is_heard = self.is_listening
+            return None
+        return "PUBLISHED 3"
+
+    def wait(self, seconds):
+        """All of the time passes where nothing was heard."""
+        if not self.is_heard:
+            self.seconds += seconds
+        self.is_heard = False
+
+
+class Submitting(unittest.TestCase):
+    def test_an_answer_between_the_look_and_the_wait_is_heard(self):
+        engine = Engine()
+        with mock.patch.object(batchlog, "Log", engine), mock.patch.object(batchlog, "append", lambda dsn, batch: 4), \
+                mock.patch.object(batchlog.time, "monotonic", lambda: 100 + engine.seconds), mock.patch.object(batchlog.time, "sleep"):
+            found = batchlog.submit("dbname=maps", b"ON a", 60)
+        self.assertEqual((found, engine.seconds), ((4, "PUBLISHED 3"), 0))
 
 
 class Proxies(unittest.TestCase):

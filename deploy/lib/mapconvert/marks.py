@@ -13,6 +13,13 @@ PLAIN_FONTS = ("/usr/share/fonts/truetype/dejavu/DejaVuSans.ttf",)
 HERE = os.path.dirname(os.path.realpath(__file__))
 
 
+def around(middle, box):
+    """The least box round the middle of a square that has a box in it, and the middle in its own middle; both end behind their last pixel."""
+    across = max(middle - box[0], box[2] - 1 - middle, 0)
+    down = max(middle - box[1], box[3] - 1 - middle, 0)
+    return middle - across, middle - down, middle + across + 1, middle + down + 1
+
+
 class Marks:
     """The pixmaps of a map, each once, in the folder that is written."""
 
@@ -62,15 +69,12 @@ class Marks:
         box, middle = solid.getbbox(), (LARGEST - 1) // 2
         if box is None:
             return None
-        across = max(middle - box[0], box[2] - 1 - middle, 0)
-        down = max(middle - box[1], box[3] - 1 - middle, 0)
-        square = (middle - across, middle - down, middle + across + 1, middle + down + 1)
         plain = Image.new("RGB", picture.size, NOTHING)
         colours = picture.convert("RGB")
         # A pixel that is 255 0 255 itself is painted in its neighbour.
         colours.putdata([(254, 0, 255) if pixel == NOTHING else pixel for pixel in colours.getdata()])
         plain.paste(colours, mask=solid)
-        return plain.crop(square)
+        return plain.crop(around(middle, box))
 
     def name_of(self, style, wanted):
         """The name of the symbol that paints as a style does on a point; nothing where that paints nothing."""
