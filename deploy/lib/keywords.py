@@ -134,11 +134,11 @@ INCLUDE = "write into the mapfile what that file has"
 
 # Keywords by which MapServer hides something at some scales or in some views, and which deploy/convert carries out in part or not.
 EXPOSED = {
-    "LAYER CLUSTER", "LAYER MINGEOWIDTH", "LAYER MAXGEOWIDTH", "LAYER MINFEATURESIZE", "CLASS MINFEATURESIZE", "LABEL MINFEATURESIZE",
-    "STYLE MINSCALEDENOM", "STYLE MAXSCALEDENOM",
+    "LAYER CLUSTER", "LAYER EXTENT", "LAYER MINGEOWIDTH", "LAYER MAXGEOWIDTH", "LAYER MINFEATURESIZE", "CLASS MINFEATURESIZE",
+    "LABEL MINFEATURESIZE", "STYLE MINSCALEDENOM", "STYLE MAXSCALEDENOM",
 }
-# Metadata by which a layer shows the features of one time.
-TIMES = ("wms_timeitem", "ows_timeitem")
+# Metadata by which a layer shows the features of one time where a request names none.
+TIMES = ("wms_timedefault", "ows_timedefault")
 
 # Refused keywords that go on to an END.
 REFUSED_BLOCKS = {

@@ -43,7 +43,7 @@ class Requests(unittest.TestCase):
         for map, layer, is_open in rows:
             self.assertEqual(access.is_open(owner(**map), owner(**layer), "GetMap", True), is_open, (map, layer))
         self.assertIsNone(access.closed(owner(), owner(), True))
-        self.assertEqual(access.closed(owner(), owner()), "enable_request closes it for GetMap")
+        self.assertEqual(access.closed(owner(), owner()), "no enable_request opens it")
 
     def test_a_map_says_something_where_one_of_its_layers_does(self):
         rows = [({}, [{}, {"wms_title": "t"}], True), ({"ows_enable_request": "!*"}, [], False), ({}, [{}, {"wms_enable_request": "GetMap"}], False)]

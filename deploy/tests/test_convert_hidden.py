@@ -2,6 +2,7 @@
 """What MapServer draws nothing of (deploy/lib/mapconvert/hidden.py), and which mapfiles it answers nobody from (deploy/convert)."""
 import unittest
 from types import SimpleNamespace
+from unittest import mock
 
 import loading
 
@@ -92,6 +93,22 @@ class Sizes(unittest.TestCase):
             writer.hide_small_features()
             self.assertAlmostEqual(writer.layer.maxscaledenom, shown, 3)
             self.assertEqual((writer.report.changes, writer.report.exposed), counts)
+
+
+class Extents(unittest.TestCase):
+    def test_features_beyond_an_extent_are_counted(self):
+        features = [Sizes.feature(None, *parts) for parts in ([[(1, 1), (3, 4)]], [[(1, 1)], [(3, 4.5)]], [[(0.9, 2)]], [[(2, 0.5)]], [[(3.0000005, 2)]], [[(4, 2)]])]
+        self.assertEqual(hidden.beyond(features, (1, 1, 3, 4)), 4)
+        self.assertEqual([hidden.beyond([feature], (1, 1, 3, 4)) for feature in features], [0, 1, 1, 1, 0, 1])
+
+    def test_they_are_reported(self):
+        for sides, exposed in (((1, 1, 3, 4), 1), ((0, 0, 5, 5), 0), ((-1, -1, -1, -1), 0), ((3, 1, 1, 4), 0)):
+            writer = layers.LayerWriter.__new__(layers.LayerWriter)
+            writer.layer = SimpleNamespace(extent=SimpleNamespace(**dict(zip(("minx", "miny", "maxx", "maxy"), sides))))
+            writer.features, writer.report, writer.node = [Sizes.feature(None, [(1, 1), (4, 2)])], Report(), Node(("m.map", 7))
+            with mock.patch.object(shapes.mapscript, "rectObj", lambda *sides: writer.layer.extent, create=True):
+                writer.look_beyond_extent(None)
+            self.assertEqual(writer.report.exposed, exposed, sides)
 
 
 class Mapfiles(unittest.TestCase):

@@ -30,7 +30,7 @@ MAP = """MAP
     CLUSTER END END
   DEBUG 3 LAYER NAME 'b' TYPE LINE
     OFFSITE 1 2 3
-    METADATA 'wms_timeextent' '2001/2009' 'wms_timeitem' 'year' END
+    METADATA 'wms_timeitem' 'year' 'wms_timedefault' '2005' END
   END
 END
 """
@@ -126,9 +126,9 @@ class Leftovers(Reading):
             ["2", "note", "STATUS"], ["3", "note", "TEMPLATEPATTERN"], ["6", "note", 'METADATA "wms_abstract" has no effect here'],
             ["6", "note", 'METADATA "wfs_denied_ip_list" has no effect here'],
             ["9", "left out", "STATUS"], ["11", "note", "PROCESSING BANDS=1"], ["17", "left out", "INITIALGAP"], ["21", "note", "DEBUG"], ["22", "left out", "OFFSITE"],
-            ["23", "note", 'METADATA "wms_timeextent" has no effect here'], ["part", "3", "left out"],
+            ["23", "note", 'METADATA "wms_timeitem" has no effect here'], ["part", "3", "left out"],
             # and last what MapServer hides
-            ["6", "shown", "ows_denied_ip_list"], ["20", "shown", "CLUSTER"], ["23", "shown", "wms_timeitem"],
+            ["6", "shown", "ows_denied_ip_list"], ["20", "shown", "CLUSTER"], ["23", "shown", "wms_timedefault"],
         ])
 
     def test_a_list_of_addresses_is_reported_whatever_else_is_of_its_line(self):

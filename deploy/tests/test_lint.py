@@ -115,12 +115,13 @@ class Files(unittest.TestCase):
     def test_the_last_line_says_how_convert_makes_a_map(self):
         web = "MAP WEB METADATA 'ows_enable_request' '*' {} END END {} TRANSPARENT ON END"
         layer = "LAYER NAME 'a' TYPE LINE {} CLASS LABEL MINFEATURESIZE 5 END END END"
-        plain, more = "makes a map without differences, where MapServer reads this one", "makes a map that shows more than MapServer does, as its last lines say"
+        plain, more = "makes a map without differences, where MapServer reads this one", "makes a map that may show more than MapServer does: the last lines of its report say so"
         rows = [
             (web.format("", ""), f" {plain}"), ("MAP TRANSPARENT ON END", f" --open {more}"),
             (web.format("'wms_allowed_ip_list' '10.1.1.1'", ""), f" --shown {more}"), (web.format("'wfs_denied_ip_list' '10.1.1.1'", ""), f" {plain}"),
             (web.format("", "LAYER NAME 'a' TYPE LINE METADATA 'wms_denied_ip_list' 'x' END END"), f" {plain}"),
-            (web.format("", "LAYER NAME 'a' TYPE LINE METADATA 'wms_timeitem' 'x' END END"), f" {more}"),
+            (web.format("", "LAYER NAME 'a' TYPE LINE METADATA 'wms_timedefault' 'x' END END"), f" {more}"),
+            (web.format("", "LAYER NAME 'a' TYPE LINE METADATA 'wms_timeitem' 'x' END END"), f" {plain}"), (web.format("", "LAYER NAME 'a' TYPE LINE EXTENT 0 0 1 1 END"), f" {more}"),
             (web.format("", layer.format("")), f" {more}"), (web.format("", "LAYER NAME 'a' TYPE POINT CLUSTER END END"), f" {more}"),
         ]
         for source, words in rows:

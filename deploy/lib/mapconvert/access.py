@@ -54,7 +54,7 @@ def closed(map, layer, opens=False):
     """What closes a layer, in words; nothing where GetMap and GetCapabilities are open to everybody."""
     for request in ("GetMap", "GetCapabilities"):
         if not is_open(map, layer, request, opens):
-            return f"enable_request closes it for {request}"
+            return "no enable_request opens it" if says_nothing(map, [layer]) else f"enable_request closes it for {request}"
     listed = addresses(layer.metadata)
     return f"{listed} closes it for some addresses" if listed else None
 

@@ -6,6 +6,7 @@ import mapscript
 from mapconvert import conditions, texts
 
 METRES_OF_A_DEGREE, METRES_OF_A_PIXEL = 111_319.491, 0.00028
+ROUNDED = 0.000001
 NOTHING = "MapServer draws nothing of it"
 
 
@@ -33,6 +34,16 @@ def scale_of_length(feature, pixels):
     xs, ys = zip(*(map(float, place) for part in feature.parts for place in part))
     degrees = math.hypot(max(xs) - min(xs), max(ys) - min(ys)) / pixels
     return degrees * METRES_OF_A_DEGREE / METRES_OF_A_PIXEL
+
+
+def beyond(features, box):
+    """How many features reach beyond a box of west, south, east and north, by more than coordinates are rounded."""
+    west, south, east, north = box
+    count = 0
+    for feature in features:
+        xs, ys = zip(*(map(float, place) for part in feature.parts for place in part))
+        count += min(xs) < west - ROUNDED or min(ys) < south - ROUNDED or max(xs) > east + ROUNDED or max(ys) > north + ROUNDED
+    return count
 
 
 def drawn_by_size(features, pixels, least):

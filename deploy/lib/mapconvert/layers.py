@@ -52,6 +52,7 @@ class LayerWriter:
         self.labels.fonts = self.options.fonts
         self.features = reading.features(self.labels.text if any(self.labels.visible) else lambda found, values, given: None)
         self.hide_small_features()
+        self.look_beyond_extent(reading.source.change)
         self.say_what_was_read(reading)
 
     def hide_small_features(self):
@@ -66,6 +67,12 @@ class LayerWriter:
         self.layer.maxscaledenom = both(self.layer.maxscaledenom, high / factor, min)
         say = self.report.changed if low == high else self.report.shows
         say(self.place("MINFEATURESIZE"), f"MINFEATURESIZE: the layer shows up to 1:{high:,.0f}, as its largest feature does" + ("" if low == high else ", and smaller ones with it"))
+
+    def look_beyond_extent(self, change):
+        """Says where features lie beyond the layer's EXTENT: MapServer draws them in no view that doesn't meet that."""
+        box = shapes.box_of(self.layer.extent, change)
+        if box and (count := hidden.beyond(self.features, box)):
+            self.report.shows(self.place("EXTENT"), f"EXTENT: {count:,} of {len(self.features):,} features reach beyond it, and are drawn in views that don't meet it")
 
     def say_what_was_read(self, reading):
         if reading.hidden:

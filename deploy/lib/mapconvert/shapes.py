@@ -59,6 +59,16 @@ class ToDegrees:
         return not self.is_known or shape.project(self.change) == mapscript.MS_SUCCESS
 
 
+def box_of(extent, change):
+    """West, south, east and north of an EXTENT, in degrees by a change to these; nothing where it isn't given."""
+    if not (extent.minx < extent.maxx and extent.miny < extent.maxy):
+        return None
+    box = mapscript.rectObj(extent.minx, extent.miny, extent.maxx, extent.maxy)
+    if change and change.is_known:
+        box.project(change.change)
+    return box.minx, box.miny, box.maxx, box.maxy
+
+
 class Page:
     """Where places of the page stand, of a layer with TRANSFORM FALSE: in the map's EXTENT."""
 
