@@ -97,9 +97,9 @@ class Sizes(unittest.TestCase):
 
 class Extents(unittest.TestCase):
     def test_features_beyond_an_extent_are_counted(self):
-        features = [Sizes.feature(None, *parts) for parts in ([[(1, 1), (3, 4)]], [[(1, 1)], [(3, 4.5)]], [[(0.9, 2)]], [[(2, 0.5)]], [[(3.0000005, 2)]], [[(4, 2)]])]
-        self.assertEqual(hidden.beyond(features, (1, 1, 3, 4)), 4)
-        self.assertEqual([hidden.beyond([feature], (1, 1, 3, 4)) for feature in features], [0, 1, 1, 1, 0, 1])
+        features = [Sizes.feature(None, *parts) for parts in ([[(1, -2), (3, 5)]], [[(1, 1)], [(3, 5.5)]], [[(0.9, 2)]], [[(2, -2.5)]], [[(3.0000005, 2)]], [[(4, 2)]])]
+        self.assertEqual(hidden.beyond(features, (1, -2, 3, 5)), 4)
+        self.assertEqual([hidden.beyond([feature], (1, -2, 3, 5)) for feature in features], [0, 1, 1, 1, 0, 1])
 
     def test_they_are_reported(self):
         for sides, exposed in (((1, 1, 3, 4), 1), ((0, 0, 5, 5), 0), ((-1, -1, -1, -1), 0), ((3, 1, 1, 4), 0)):

@@ -2,7 +2,10 @@
 """What deploy/up decides before it starts something, and which configuration it writes for nginx."""
 import os
 import pathlib
+import select
+import signal
 import socket
+import subprocess
 import tempfile
 import unittest
 from types import SimpleNamespace
@@ -91,6 +94,41 @@ class Servers(unittest.TestCase):
             one.end()
             self.assertEqual(one.server.status(), 5)
             one.server.popen.stdout.close()
+
+
+class Processes(unittest.TestCase):
+    def test_the_children_of_a_process_are_waited_for(self):
+        with tempfile.TemporaryDirectory() as folder:
+            process = started.Process("sh", [program(folder, "parent", "sleep 30 & sleep 31 & echo; wait")], stdout=subprocess.PIPE)
+            process.popen.stdout.readline()
+            children = started.children_of(process)
+            self.assertEqual(len(children), 2)
+            with mock.patch.object(started, "PATIENCE", 0.2):
+                self.assertFalse(started.until_gone(process, children))
+                for child in children:
+                    os.kill(int(child), 9)
+                self.assertTrue(started.until_gone(process, children))
+            process.end()
+            process.popen.stdout.close()
+
+    def test_one_that_does_not_end_is_killed_with_what_it_started(self):
+        with tempfile.TemporaryDirectory() as folder, mock.patch.object(started, "PATIENCE", 0.3), mock.patch("builtins.print"):
+            process = started.Process("sh", [program(folder, "parent", "trap '' TERM; sleep 30 & echo; wait; wait")], stdout=subprocess.PIPE)
+            process.popen.stdout.readline()
+            process.end()
+            # its output is at its end, as nobody holds it open
+            self.assertEqual((process.status(), len(select.select([process.popen.stdout], [], [], 5)[0])), (-9, 1))
+            process.popen.stdout.close()
+
+    def test_each_ends_by_its_signal(self):
+        with tempfile.TemporaryDirectory() as folder:
+            words = [program(folder, "parent", "trap 'exit 4' QUIT; trap 'exit 5' TERM; echo; while :; do sleep 0.05; done")]
+            for given, status in (({}, 5), ({"quits": signal.SIGQUIT}, 4)):
+                process = started.Process("sh", words, stdout=subprocess.PIPE, **given)
+                process.popen.stdout.readline()
+                process.end()
+                self.assertEqual(process.status(), status)
+                process.popen.stdout.close()
 
 
 class Played:
