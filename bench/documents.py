@@ -43,7 +43,7 @@ class Crate:
     def __init__(self, folder):
         self.files = {path.name: path.read_text() for path in (folder / "src").rglob("*.rt")}
         self.modules = {path.stem: path.read_text() for path in (folder / "specs").glob("*.antt")}
-        self.edits = {path.name for path in folder.glob("must-fail/*.edit")}
+        self.edits = {path.name for path in folder.glob("must-fail/*.edit")} | planted.own_edits(folder.name)
         self.code = "\n".join(self.files.values())
         self.calls = set().union(*(methods(text) for text in self.files.values()))
         self.other_names = dict(re.findall(r"^pub type (\w+)[^=]*= (\w+)", self.code, re.M))

@@ -63,12 +63,23 @@ class Crates(Sources):
         self.write("crates/side/out/kept", "x")
         self.write("crates/side/must-fail/a.edit", "x")
         folder = os.path.join(self.top, "copy")
-        os.mkdir(folder)
         build.copy(build.crates(), folder)
         with open(os.path.join(folder, "crates.txt"), encoding="utf-8") as file:
             self.assertEqual([line.partition(":")[0] for line in file], ["base", "middle", "side", "mapservd"])
         self.assertEqual(sorted(os.listdir(os.path.join(folder, "crates"))), ["base", "mapservd", "middle", "side"])
         self.assertEqual(os.listdir(os.path.join(folder, "crates", "side")), ["src"])
+
+    def test_a_copy_that_stays_has_the_sources_of_today_and_what_rt_keeps(self):
+        folder = os.path.join(self.top, "copy")
+        self.write("crates/side/src/old.rt", "x")
+        build.copy(build.crates(), folder)
+        kept = self.write("copy/crates/side/out/incremental/a", "kept")
+        os.remove(os.path.join(self.top, "crates/side/src/old.rt"))
+        self.write("crates/side/src/new.rt", "y")
+        build.copy(build.crates(), folder)
+        self.assertEqual(sorted(os.listdir(os.path.join(folder, "crates/side/src"))), ["lib.rt", "new.rt"])
+        with open(kept, encoding="utf-8") as file:
+            self.assertEqual(file.read(), "kept")
 
 
 class Digests(Sources):
@@ -98,6 +109,34 @@ class Digests(Sources):
         self.assertTrue(build.is_built(below))
         self.write("crates/base/src/lib.rt", "changed")
         self.assertFalse(build.is_built(below))
+
+
+class Statements(Sources):
+    def prove(self, script):
+        """What is said of a run of rt that is played by a script, and whether it proved all."""
+        rt = self.write("bin/rt", f"#!/bin/sh\n{script}\n")
+        os.chmod(rt, 0o755)
+        with mock.patch.dict(os.environ, {"PATH": os.path.dirname(rt) + ":" + os.environ["PATH"], "RT_JOBS": "1"}):
+            with contextlib.redirect_stdout(io.StringIO()) as said:
+                os.makedirs(build.OUT)
+                failed = build.build_by_statements(build.crates())
+        return said.getvalue().splitlines(), failed
+
+    def test_each_crate_that_is_done_is_named_and_the_program_is_taken(self):
+        said, failed = self.prove("""[ -z "$RT_JOBS" ] || exit 1
+echo "base proved"; echo "rt: side is kept: an earlier run proved it"; echo "fn a::b: proved"
+mkdir -p crates/mapservd/out; echo built > crates/mapservd/out/mapservd""")
+        self.assertEqual((said, failed), (["1 of 4: base", "2 of 4: side, proved before"], None))
+        with open(build.BUILT, encoding="utf-8") as file:
+            self.assertEqual(file.read(), "built\n")
+
+    def test_what_rt_wrote_is_kept_where_it_fails(self):
+        said, failed = self.prove("echo refused; exit 1")
+        self.assertEqual(said, [])
+        with open(failed, encoding="utf-8") as file:
+            self.assertEqual(file.read(), "refused\n")
+        self.assertFalse(os.path.exists(build.BUILT))
+        self.assertEqual(os.listdir(build.OUT), ["log"])
 
 
 class Orders(Sources):
@@ -136,9 +175,11 @@ class Orders(Sources):
     def test_a_library_is_linked_for_the_other_jobs(self):
         other = os.path.join(self.top, "other")
         building = build.Building(build.crates(), [self.top, other])
-        kept = self.write("crates/base/out/rlib/a/b", "x")
-        building.hand_on("base")
-        self.assertTrue(os.path.samefile(kept, os.path.join(other, "crates/base/out/rlib/a/b")))
+        kept = self.write("other/crates/base/out/rlib/a/b", "x")
+        self.write("crates/base/out/rlib/older", "x")
+        building.hand_on("base", other)
+        self.assertTrue(os.path.samefile(kept, os.path.join(self.top, "crates/base/out/rlib/a/b")))
+        self.assertEqual(os.listdir(os.path.join(self.top, "crates/base/out/rlib")), ["a"])
         shutil.rmtree(other)
 
 
