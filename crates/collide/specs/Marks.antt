@@ -17,8 +17,8 @@ around marks = record { left = negsuc 0; top = negsuc 0; right = pos marks.colum
 
 -- each of them has one
 pub record IsWhole (marks : Marks) : Type 0 where
-  pub columns : marks.columns < 2 ^ 13
-  pub rows : marks.rows < 2 ^ 13
+  pub columns : marks.columns < 2 ^ 14
+  pub rows : marks.rows < 2 ^ 14
   pub words : marks.columns * marks.rows ≤ 64 * length marks.words.items
 
 -- the pixel of the bit in a column and a row lies in a box

@@ -1,10 +1,11 @@
-ghost use Rattle.std.specs.Prelude.{◌≡◌, [], ◌∷◌, ◌++◌, ◌↔◌, IsTrue, IfOk, OnOk, OnErr};
+ghost use Rattle.std.specs.Prelude.{◌≡◌, ◌≤◌, [], ◌∷◌, ◌++◌, ◌↔◌, IsTrue, IfOk, OnOk, OnErr};
 ghost use Rattle.std.specs.List.{Any};
 ghost use Rattle.geom.specs.PxBox.{Meets};
+ghost use Rattle.collide.specs.declared.marks.TheConstants.{MAX_SIDE};
 ghost use Rattle.collide.specs.Marks.{IsMarkable, IsWhole};
 
 use crate::marks::Marks;
-use geom::{PictureSide, PxBox};
+use geom::PxBox;
 use std::alloc::{AllocError, Global};
 use std::marker::Model;
 
@@ -33,7 +34,9 @@ impl Model for Boxes {
 
 impl Boxes {
     /// No boxes, on a picture of that width and height.
-    pub fn new(alloc: Global, width: PictureSide, height: PictureSide) -> Result<Self, AllocError>
+    pub fn new(alloc: Global, width: u16, height: u16) -> Result<Self, AllocError>
+        requires width { width ≤ MAX_SIDE }
+        requires height { height ≤ MAX_SIDE }
         ensures { IfOk result (λ boxes. boxes ≡ []) }
     {
         Ok(Boxes {

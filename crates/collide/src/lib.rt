@@ -12,3 +12,4 @@ mod boxes;
 mod marks;
 
 pub use boxes::Boxes;
+pub use marks::MAX_SIDE;

@@ -1,9 +1,13 @@
 ghost use Rattle.std.specs.Prelude.{◌≡◌, ◌+◌, ◌≤◌, ◌↔◌, IsTrue, IfOk};
+ghost use Rattle.collide.specs.declared.marks.TheConstants.{MAX_SIDE};
 ghost use Rattle.collide.specs.Marks.{HasMarked, IsBlank, IsMarkedBy, IsMarkable, IsWhole, around, bit_of};
 
 use crate::bits::{has_any, set_all};
-use geom::{PictureSide, PxBox};
+use geom::PxBox;
 use std::alloc::{AllocError, Global};
+
+/// The most columns of a picture, and the most rows: those of one of 2,048 that is four times as fine.
+pub const MAX_SIDE: u16 = 8_192;
 
 /// A bit for each pixel of a picture with one more column and one more row on each side, row by row from the top:
 /// whether the pixel is marked.
@@ -16,13 +20,15 @@ pub struct Marks {
 
 impl Marks {
     /// No marks, over a picture of that width and height.
-    pub fn new(alloc: Global, width: PictureSide, height: PictureSide) -> Result<Self, AllocError>
+    pub fn new(alloc: Global, width: u16, height: u16) -> Result<Self, AllocError>
+        requires width { width ≤ MAX_SIDE }
+        requires height { height ≤ MAX_SIDE }
         ensures blank { IfOk result IsBlank }
         ensures columns { IfOk result (λ marks. marks.columns ≡ width + 2) }
         ensures rows { IfOk result (λ marks. marks.rows ≡ height + 2) }
     {
-        let columns = usize::from(width.pixels()) + 2;
-        let rows = usize::from(height.pixels()) + 2;
+        let columns = usize::from(width) + 2;
+        let rows = usize::from(height) + 2;
         let words = vec![in alloc; 0; columns * rows / 64 + 1]?;
         Ok(Marks {
             words,

@@ -1,6 +1,6 @@
 -- One more tile, and one more strip.
 use Rattle.std.proofs.Common.{◌≡◌, ◌∙◌, ℕ, ◌+◌, ◌-◌, ◌*◌, ◌/◌, ◌<◌, ◌≤◌, List, Option, None, Some, refl, sym, ap, inl, inr, arith}
-use Rattle.std.proofs.Math.Nat.{mul-le-mul_left}
+use Rattle.std.proofs.Math.Nat.{mul-le-mul_left, mul-le-mul_right}
 use Rattle.std.proofs.lemmas.Bool.{cases_lt}
 use Rattle.std.proofs.lemmas.Option.{get_or_from_slice_get}
 use Rattle.std.specs.List.{slice_get}
@@ -18,7 +18,7 @@ use Rattle.geom.specs.Scale.{PictureScale}
 use Rattle.labelcache.specs.Candidate.{CandidateValue}
 use Rattle.labelcache.specs.declared.cache.Placed.{Placed}
 use Rattle.mapdefs.specs.declared.map.MapFields.{MapFields}
-use Rattle.viewport.specs.View.{ViewValue, whole_of}
+use Rattle.viewport.specs.View.{IsOnSide, ViewValue, whole_of}
 use Rattle.compose.specs.Blocks.{whole_colour}
 use Rattle.compose.specs.Labels.{ArePlaced, candidate_list}
 use Rattle.compose.specs.Smooth.{IsSmoothPictureOf}
@@ -154,3 +154,7 @@ smooth-drawn m view scale chosen background candidates labels old new across dow
 pub both-ok : {T E P Q R : Type 0} (r : Result T E) → (P → Q → R) → OnOk r P → OnOk r Q → OnOk r R
 both-ok (Ok x) f p q = f p q
 both-ok (Err e) f p q = tt
+
+-- a side that has so many pixels for each of some has a first pixel
+pub first-on-side : (pixels factor side : ℕ) → pixels ≡ factor * side → 1 ≤ factor → 1 ≤ side → IsOnSide pixels 0 1
+first-on-side pixels factor side e f s = record { some = omega arith; within = omega (arith, e, mul-le-mul_right {m = 1} {n = factor} side f, s) }

@@ -74,6 +74,11 @@ abbrev pub ArePlaced : ViewValue → Option FontFields → List CandidateValue �
 ArePlaced view None candidates labels = labels ≡ []
 ArePlaced view (Some font) candidates labels = IsPlacement (setting (record { width = view.width; height = view.height; font = font }) candidates) labels
 
+-- the labels of a picture: the candidates, and those that are placed
+pub record LabelsValue : Type 0 where
+  pub candidates : List CandidateValue
+  pub placed : List Placed
+
 -- outline and glyphs are painted where there is a colour
 abbrev pub outlines : Written → Option Rgb → List PaintedShape
 outlines w None = []

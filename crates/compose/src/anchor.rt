@@ -4,9 +4,9 @@ ghost use Rattle.labelcache.specs.Candidate.{IsAnchor};
 ghost use Rattle.mapdefs.specs.declared.layer.Geometry.TheVariants as kind;
 ghost use Rattle.compose.specs.Anchor.{anchor_on, anchor_place, halfway, is_shown, shown_anchor, shown_pixel};
 
-use geom::{Coordinate, Micro, PictureSide, Pixel, World};
+use crate::label_scene::LabelScene;
+use geom::{Coordinate, Micro, Pixel, World};
 use mapdefs::{FeatureFields, Geometry};
-use scene::Scene;
 
 // The middle between two coordinates, halved downwards.
 fn halfway(a: Coordinate, b: Coordinate) -> Coordinate
@@ -57,24 +57,23 @@ fn anchor_place(kind: Geometry, feature: &FeatureFields) -> Option<World>
 }
 
 // Whether an index is that of one of so many columns or rows.
-fn is_among(side: PictureSide, index: i64) -> bool
+fn is_among(side: u16, index: i64) -> bool
     ensures value { result ≡ (int_le (pos 0) index && int_lt index (pos side)) }
     ensures limits { IsTrue result → IsBelow (2 ^ 32) index }
 {
-    0 <= index && index < i64::from(side.pixels())
+    0 <= index && index < i64::from(side)
 }
 
-// Whether a pixel lies in the scene's picture.
-fn is_shown(scene: &Scene<'_>, pixel: Pixel) -> bool
+// Whether a pixel lies where labels are placed.
+fn is_shown(scene: &LabelScene<'_, '_>, pixel: Pixel) -> bool
     ensures value { result ≡ is_shown scene.now.view pixel }
     ensures limits { IsTrue result → IsAnchor pixel }
 {
-    let projection = scene.projection();
-    is_among(projection.width(), pixel.i()) && is_among(projection.height(), pixel.j())
+    is_among(scene.columns(), pixel.i()) && is_among(scene.rows(), pixel.j())
 }
 
-// The pixel that a place lies in, where the pixel lies in the scene's picture.
-fn shown_pixel(scene: &Scene<'_>, place: World) -> Option<Pixel>
+// The pixel that a place lies in, where labels are placed on that pixel.
+fn shown_pixel(scene: &LabelScene<'_, '_>, place: World) -> Option<Pixel>
     ensures value { result ≡ shown_pixel scene.now.view place }
     ensures limits { IfSome result IsAnchor }
 {
@@ -86,8 +85,12 @@ fn shown_pixel(scene: &Scene<'_>, place: World) -> Option<Pixel>
     }
 }
 
-/// The pixel of a feature's anchor, where it has one and the pixel lies in the scene's picture.
-pub fn shown_anchor(scene: &Scene<'_>, kind: Geometry, feature: &FeatureFields) -> Option<Pixel>
+/// The pixel of a feature's anchor, where it has one and labels are placed on that pixel.
+pub fn shown_anchor(
+    scene: &LabelScene<'_, '_>,
+    kind: Geometry,
+    feature: &FeatureFields,
+) -> Option<Pixel>
     ensures value { result ≡ shown_anchor scene.now.view kind feature.now }
     ensures limits { IfSome result IsAnchor }
 {

@@ -9,68 +9,63 @@ ghost use Rattle.compose.specs.Blocks.{IsBlockOf, corner_of, label_from, whole_c
 ghost use Rattle.compose.specs.Labels.{candidate_list, ink_list, label_shapes};
 
 use crate::ink::paint_label;
+use crate::labels::Labels;
 use crate::paint::{PictureQuery, drawn};
 use canvas::Canvas;
 use geom::Pixel;
-use labelcache::{Cache, Placed};
+use labelcache::Placed;
 use mapdefs::{Font, Near};
 use scene::Scene;
-use std::alloc::{AllocError, Global};
+use std::alloc::AllocError;
 use viewport::View;
 
-/// The block of a whole picture that the canvas of a scene is: the chosen layers over the background, and then labels
-/// that are placed on the whole picture.
+/// The block of a whole picture that the canvas of a scene is: the chosen layers over the background, and then the labels of
+/// the whole picture.
 pub fn draw_block<N: Near>(
-    alloc: Global,
     scene: &Scene<'_>,
     near: &N,
     asked: &PictureQuery<'_>,
-    labels: &Cache<'_>,
-    placed: &[Placed],
+    labels: &Labels<'_>,
 ) -> Result<Canvas, AllocError>
     requires near { N.map_of near.now ≡ scene.now.map }
     requires layers { All (λ index. index < length scene.now.map.layers) asked.now.chosen.now }
-    requires candidates { labels.now ≡ candidate_list (whole_of scene.now.view) scene.now.scale scene.now.map asked.now.chosen.now }
-    requires corners { All (λ label. IsTextCorner label.at) placed.now }
+    requires candidates { labels.now.candidates ≡ candidate_list (whole_of scene.now.view) scene.now.scale scene.now.map asked.now.chosen.now }
     ensures { let view = scene.now.view in
-        IfOk result (IsBlockOf (whole_colour scene.now.map (whole_of view) scene.now.scale asked.now.chosen.now asked.now.background placed.now)
+        IfOk result (IsBlockOf (whole_colour scene.now.map (whole_of view) scene.now.scale asked.now.chosen.now asked.now.background labels.now.placed)
         (record { first = view.left; count = view.width }) (record { first = view.top; count = view.height })) }
 {
-    let mut canvas = drawn(alloc, scene, near, asked)?.into_canvas();
-    paint_whole_labels(&mut canvas, scene, labels, placed)?;
+    let mut canvas = drawn(labels.alloc(), scene, near, asked)?.into_canvas();
+    paint_whole_labels(&mut canvas, scene, labels)?;
     Ok(canvas)
 }
 
-// Paints labels that are placed on the whole picture, where the map has a font.
+// Paints the labels of the whole picture, where the map has a font.
 fn paint_whole_labels(
     canvas: &mut Canvas,
     scene: &Scene<'_>,
-    labels: &Cache<'_>,
-    placed: &[Placed],
+    labels: &Labels<'_>,
 ) -> Result<(), AllocError>
-    requires { All (λ label. IsTextCorner label.at) placed.now }
     ensures { OnOk result (IsPainted canvas.old canvas.new
-        (ink_list scene.now.map.font labels.now (map (label_from (corner_of scene.now.view)) placed.now))) }
+        (ink_list scene.now.map.font labels.now.candidates (map (label_from (corner_of scene.now.view)) labels.now.placed))) }
 {
     let Some(font) = scene.font() else {
         return Ok(());
     };
-    paint_moved(canvas, font, labels, placed, scene.projection().view())
+    paint_moved(canvas, font, labels, scene.projection().view())
 }
 
-// Paints labels that are placed on the whole picture of a view, in the order in which they were placed.
+// Paints the labels of the whole picture of a view, in the order in which they were placed.
 fn paint_moved(
     canvas: &mut Canvas,
     font: &Font,
-    labels: &Cache<'_>,
-    placed: &[Placed],
+    labels: &Labels<'_>,
     view: View,
 ) -> Result<(), AllocError>
-    requires { All (λ label. IsTextCorner label.at) placed.now }
-    ensures { OnOk result (IsPainted canvas.old canvas.new (flat_map (label_shapes font.now labels.now) (map (label_from (corner_of view)) placed.now))) }
+    ensures { OnOk result (IsPainted canvas.old canvas.new
+        (flat_map (label_shapes font.now labels.now.candidates) (map (label_from (corner_of view)) labels.now.placed))) }
 {
-    for label in placed {
-        paint_label(canvas, font, labels, moved(*label, view))?;
+    for label in labels.placed() {
+        paint_label(canvas, font, labels.candidates(), moved(*label, view))?;
     }
     Ok(())
 }

@@ -144,6 +144,10 @@ pub fn paint_labels(
         return Ok(());
     };
     let projection = scene.projection();
-    let placed = labels.place(projection.width(), projection.height(), font)?;
+    let placed = labels.place(
+        projection.width().pixels(),
+        projection.height().pixels(),
+        font,
+    )?;
     paint_placed(canvas, font, labels, &placed)
 }

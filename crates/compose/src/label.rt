@@ -5,11 +5,11 @@ ghost use Rattle.compose.specs.Labels.{feature_text, first_characters, label_tex
 
 use crate::anchor::shown_anchor;
 use crate::classified_feature::ClassifiedFeature;
+use crate::label_scene::LabelScene;
 use bdffont::{MAX_CHARACTERS, split_char};
 use expressions::item_value;
 use labelcache::{Cache, Candidate};
 use mapdefs::{FeatureFields, LayerFields};
-use scene::Scene;
 use std::alloc::AllocError;
 
 // The text of a feature: its own, else the value of the layer's label item.
@@ -57,7 +57,7 @@ fn label_text<'a>(layer: &LayerFields, feature: &'a FeatureFields) -> &'a str
 /// Adds the candidate of a classified feature, if it has one.
 pub fn add_candidate<'a>(
     labels: &mut Cache<'a>,
-    scene: &Scene<'_>,
+    scene: &LabelScene<'_, '_>,
     classified: &ClassifiedFeature<'a>,
 ) -> Result<(), AllocError>
     ensures { OnOk result (labels.new ≡ labels.old ++ classified_candidates scene.now.view scene.now.map.font classified.now) }

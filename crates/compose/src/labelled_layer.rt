@@ -5,16 +5,16 @@ ghost use Rattle.compose.specs.Walk.{given_at, classified_chosen, classified_fea
 
 use crate::classified_feature::ClassifiedFeature;
 use crate::label::add_candidate;
+use crate::label_scene::LabelScene;
 use labelcache::Cache;
 use mapdefs::{FeatureFields, LayerFields, Near};
-use scene::Scene;
 use std::alloc::AllocError;
 
 /// Adds the candidates of the layer at an index, where it shows at the scale, and paints nothing. A layer without
 /// labels is skipped.
 pub fn add_layer<'a, N: Near>(
     labels: &mut Cache<'a>,
-    scene: &Scene<'a>,
+    scene: &LabelScene<'_, 'a>,
     near: &N,
     index: usize,
 ) -> Result<(), AllocError>
@@ -31,7 +31,7 @@ pub fn add_layer<'a, N: Near>(
     if !has_labels(layer) {
         return Ok(());
     }
-    let found = near.candidates(index, scene.window(0))?;
+    let found = near.candidates(index, scene.window())?;
     add_features(labels, scene, layer, &found)
 }
 
@@ -50,7 +50,7 @@ fn has_labels(layer: &LayerFields) -> bool
 // Adds the candidates of the features at those indices in the layer, in order.
 fn add_features<'a>(
     labels: &mut Cache<'a>,
-    scene: &Scene<'_>,
+    scene: &LabelScene<'_, '_>,
     layer: &'a LayerFields,
     found: &[u32],
 ) -> Result<(), AllocError>
@@ -69,7 +69,7 @@ fn add_features<'a>(
 // Adds the candidate of a feature of the layer, if the feature has a class at the scale.
 fn add_feature<'a>(
     labels: &mut Cache<'a>,
-    scene: &Scene<'_>,
+    scene: &LabelScene<'_, '_>,
     layer: &'a LayerFields,
     feature: &'a FeatureFields,
 ) -> Result<(), AllocError>

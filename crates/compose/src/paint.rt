@@ -8,6 +8,7 @@ ghost use Rattle.compose.specs.Walk.{given_at, classified_chosen, classified_fea
 use crate::classified_feature::ClassifiedFeature;
 use crate::drawing::Drawing;
 use crate::label::add_candidate;
+use crate::label_scene::LabelScene;
 use crate::labelled_layer::add_layer;
 use crate::layer_classes::LayerClasses;
 use crate::margin::margin_of;
@@ -128,7 +129,8 @@ fn draw_mention<'a, N: Near>(
     ensures { OnOk result (IsMentioned scene.now mention.now.index mention.now.after.now drawing.old drawing.new) }
 {
     if mention.after.contains(&mention.index) {
-        return add_layer(&mut drawing.labels, scene, near, mention.index);
+        let labelled = LabelScene::of_canvas(scene);
+        return add_layer(&mut drawing.labels, &labelled, near, mention.index);
     }
     draw_layer(drawing, scene, near, mention.index)
 }
@@ -193,7 +195,8 @@ fn draw_feature<'a>(
     };
     let classified = ClassifiedFeature::new(classes.layer(), feature, class);
     paint_feature(&mut drawing.canvas, scene, &classified)?;
-    add_candidate(&mut drawing.labels, scene, &classified)
+    let labelled = LabelScene::of_canvas(scene);
+    add_candidate(&mut drawing.labels, &labelled, &classified)
 }
 
 // Paints a classified feature.

@@ -1,5 +1,5 @@
-use crate::shapes::{pixels, side};
-use collide::Boxes;
+use crate::shapes::pixels;
+use collide::{Boxes, MAX_SIDE};
 use geom::PxBox;
 use std::alloc::{AllocError, Global};
 use std::test::Fail;
@@ -16,7 +16,9 @@ const STEPS: &str = "\
 # boxes on the picture, off it on each side and at each corner, and across cells
 (-##)(-##)(-##)(-##)(-##)(-##)(-##)(-##)(-##)(-##)(-##)(-##)#-=130|note 60 61 70 66|note -40 20 -30 27|note 140 30 150 39|note 40 -30 47 -20|note 50 140 59 150|note -90 -91 -80 -82|note 180 -93 190 -84|note -94 180 -85 190|note 180 181 190 192|note -1099511627775 100 -1099511627774 101|note 1099511627774 101 1099511627775 102|note 100 -1099511627774 102 1099511627775|ask -1099511627775 -1099511627775 1099511627775 1099511627775|ask 103 0 140 130
 # boxes that share pixels off the picture alone: beside it, and further off
-#-####-=64|add -9 10 0 20|ask -9 12 0 13|ask -20 12 -9 13|ask -10 12 -8 13|add 64 5 90 9|ask 64 7 70 8|ask 65 7 66 8|add 100 100 101 101|ask 63 8 65 10|ask 63 9 65 10";
+#-####-=64|add -9 10 0 20|ask -9 12 0 13|ask -20 12 -9 13|ask -10 12 -8 13|add 64 5 90 9|ask 64 7 70 8|ask 65 7 66 8|add 100 100 101 101|ask 63 8 65 10|ask 63 9 65 10
+# at the last pixel of the largest picture, and beyond it
+#-#-#=8192|add 8190 8188 8192 8192|ask 8191 8191 8192 8192|ask 8180 8180 8190 8190|ask 8189 8191 8191 8192|add 8192 0 8200 3|ask 8191 1 8192 2|ask 8192 2 8193 9";
 
 // The mark of what is hit.
 fn mark(is_hit: bool) -> char {
@@ -81,7 +83,7 @@ fn make_all(out: &mut String, boxes: &mut Boxes, steps: &str) -> Result<(), Allo
 // The results of a row's steps.
 fn steps(alloc: Global, row: &str) -> Result<String, AllocError> {
     let (pixels, steps) = row.split_once('|').unwrap_or(("", ""));
-    let side = side(pixels.parse::<i64>().unwrap_or(0));
+    let side = pixels.parse::<u16>().unwrap_or(0).min(MAX_SIDE);
     let mut boxes = Boxes::new(alloc, side, side)?;
     let mut text = String::new(alloc);
     make_all(&mut text, &mut boxes, steps)?;
@@ -90,7 +92,7 @@ fn steps(alloc: Global, row: &str) -> Result<String, AllocError> {
 
 #[test]
 fn boxes_hit_what_they_share_a_pixel_with(rt: HostRuntime) -> Result<(), TableFault> {
-    check_rows(rt.alloc(), STEPS, '=', 4, steps)
+    check_rows(rt.alloc(), STEPS, '=', 5, steps)
 }
 
 // The next number of a sequence.
@@ -136,7 +138,7 @@ fn hits(boxes: &Boxes, list: &[PxBox], state: &mut u64) -> Result<u32, PxBox> {
 
 // The hits of the boxes and the list that a sequence from that number on makes.
 fn hits_from(alloc: Global, mut state: u64) -> Result<Result<u32, PxBox>, AllocError> {
-    let mut boxes = Boxes::new(alloc, side(130), side(130))?;
+    let mut boxes = Boxes::new(alloc, 130, 130)?;
     let mut list = Vec::new(alloc);
     add_some(&mut boxes, &mut list, &mut state)?;
     Ok(hits(&boxes, &list, &mut state))
@@ -165,12 +167,12 @@ fn tile(boxes: &mut Boxes) -> Result<u32, AllocError> {
 
 // How many of the 5,000 boxes fit, and whether the parts of a picture from four corners on are hit.
 fn tiled(alloc: Global) -> Result<(u32, [bool; 4]), AllocError> {
-    let mut boxes = Boxes::new(alloc, side(2_048), side(2_048))?;
+    let mut boxes = Boxes::new(alloc, MAX_SIDE, MAX_SIDE)?;
     let count = tile(&mut boxes)?;
     let corners = [[0, 0], [1_999, 1_999], [2_000, 0], [0, 2_000]];
     Ok((
         count,
-        corners.map(|[left, top]| boxes.hits(pixels([left, top, 2_048, 2_048]))),
+        corners.map(|[left, top]| boxes.hits(pixels([left, top, 8_192, 8_192]))),
     ))
 }
 

@@ -1,10 +1,11 @@
-ghost use Rattle.std.specs.Prelude.{◌^◌};
+ghost use Rattle.std.specs.Prelude.{◌≤◌, ◌^◌};
+ghost use Rattle.collide.specs.declared.marks.TheConstants.{MAX_SIDE};
 ghost use Rattle.geom.specs.Range.{IsBelow};
 ghost use Rattle.labelcache.specs.Candidate.{IsAnchor};
 
 use bdffont::is_short;
 use geom::{PictureSide, Pixel};
-use labelcache::{Cache, Candidate, Placed};
+use labelcache::{Cache, Candidate, MAX_SIDE, Placed};
 use mapdefs::{Font, Label, LabelFields, Position, Rgb};
 use std::alloc::{AllocError, Global};
 
@@ -48,6 +49,13 @@ pub(crate) fn label_of(fields: LabelFields) -> Label {
 /// The side of a picture. That of a row is within the limits.
 pub(crate) fn side(pixels: i64) -> PictureSide {
     PictureSide::new(pixels.clamp(1, 2_048) as u16).unwrap()
+}
+
+/// The side of what labels are placed on. That of a row is within the limits.
+pub(crate) fn page_side(pixels: i64) -> u16
+    ensures { result ≤ MAX_SIDE }
+{
+    (pixels.clamp(1, 8_192) as u16).min(MAX_SIDE)
 }
 
 // A column or a row of an anchor. That of a row is within the limits.
@@ -97,11 +105,14 @@ pub(crate) fn add_all<'a>(cache: &mut Cache<'a>, entries: &'a [Entry]) -> Result
 /// The labels of the entries that are placed on a picture of that width and height.
 pub(crate) fn placed_of(
     alloc: Global,
-    width: PictureSide,
-    height: PictureSide,
+    width: u16,
+    height: u16,
     font: &Font,
     entries: &[Entry],
-) -> Result<Vec<Placed>, AllocError> {
+) -> Result<Vec<Placed>, AllocError>
+    requires width { width ≤ MAX_SIDE }
+    requires height { height ≤ MAX_SIDE }
+{
     let mut cache = Cache::new(alloc);
     add_all(&mut cache, entries)?;
     cache.place(width, height, font)

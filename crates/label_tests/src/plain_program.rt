@@ -344,7 +344,7 @@ fn compared(
         font,
     };
     let entries = next_entries(alloc, state, text)?;
-    let labels = placed_of(alloc, width, height, font, &entries)?;
+    let labels = placed_of(alloc, width.pixels(), height.pixels(), font, &entries)?;
     let plain = plain(alloc, &ground, &entries)?;
     if !are_same(&labels, &plain) {
         return Ok(None);

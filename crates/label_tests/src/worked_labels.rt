@@ -1,4 +1,4 @@
-use crate::entries::{Entry, label_of, placed_of, plain_label, side};
+use crate::entries::{Entry, label_of, page_side, placed_of, plain_label};
 use crate::fonts::font_of;
 use crate::labelled_maps::colour_of;
 use labelcache::Placed;
@@ -93,7 +93,7 @@ fn entries(alloc: Global, list: &str) -> Result<Vec<Entry>, AllocError> {
 fn placed(alloc: Global, row: &str) -> Result<Vec<Placed>, AllocError> {
     let (page, list) = row.split_once('|').ok_or(AllocError)?;
     let (name, pixels) = page.split_once(' ').ok_or(AllocError)?;
-    let side = side(pixels.parse::<i64>().unwrap_or(0));
+    let side = page_side(pixels.parse::<i64>().unwrap_or(0));
     let font = font_of(alloc, name)?;
     let entries = entries(alloc, list)?;
     placed_of(alloc, side, side, &font, &entries)
@@ -179,11 +179,15 @@ const PLACED: &str = "\
 0@21,18:21,18-28,23 =uneven 40|AB 20 20 CR
 0@13,21:13,21-20,26 =uneven 40|AB 20 20 LL
 0@17,21:17,21-24,26 =uneven 40|AB 20 20 LC
-0@21,21:21,21-28,26 =uneven 40|AB 20 20 LR";
+0@21,21:21,21-28,26 =uneven 40|AB 20 20 LR
+# in the last corner of the largest picture, and a pixel too far right or down
+0@8189,8190:8189,8190-8192,8192 =tiny 8192|A 8190 8191
+=tiny 8192|A 8191 8191
+=tiny 8192|A 8190 8192";
 
 #[test]
 fn labels_stand_at_worked_corners(rt: HostRuntime) -> Result<(), TableFault> {
-    check_rows(rt.alloc(), PLACED, '=', 43, result_of_row)
+    check_rows(rt.alloc(), PLACED, '=', 46, result_of_row)
 }
 
 // The result for the first candidate of a row: the corner of its text, or `-`.

@@ -1,6 +1,7 @@
 -- Which labels are placed, and where (docs/DRAWING.md, "Labels").
 use Rattle.std.specs.Prelude.{◌≡◌, ℕ, ℤ, ◌<◌, ◌≤◌, false, List, Some, slice_get, All}
 use Rattle.std.specs.List.{AllPairs}
+use Rattle.collide.specs.declared.marks.TheConstants.{MAX_SIDE}
 use Rattle.geom.specs.Device.{PixelValue}
 use Rattle.geom.specs.PxBox.{PixelBoxValue, HasPixel, Meets, IsInside}
 use Rattle.mapdefs.specs.declared.font.FontFields.{FontFields}
@@ -13,6 +14,11 @@ pub record PageValue : Type 0 where
   pub width : ℕ
   pub height : ℕ
   pub font : FontFields
+
+-- labels may be placed on a picture of that width and height
+pub record IsPage (width height : ℕ) : Type 0 where
+  pub columns : width ≤ MAX_SIDE
+  pub rows : height ≤ MAX_SIDE
 
 -- a page, and the candidates for its labels, by their numbers
 pub record Setting : Type 0 where

@@ -1,12 +1,12 @@
 -- The labels that are placed so far, and what one more candidate changes: the account of the code.
-use Rattle.std.specs.Prelude.{◌≡◌, ℕ, ◌<◌, ◌≤◌, false, List, [], ◌∷◌, ◌++◌, Some, slice_get, All, ◌⊎◌}
+use Rattle.std.specs.Prelude.{◌≡◌, ℕ, ◌<◌, ◌≤◌, false, List, [], ◌∷◌, ◌++◌, map, Some, slice_get, All, ◌⊎◌}
 use Rattle.std.specs.List.{AllPairs, AllZip}
 use Rattle.geom.specs.Device.{PixelValue}
 use Rattle.geom.specs.PxBox.{PixelBoxValue, IsInside}
 use Rattle.mapdefs.specs.declared.label.LabelFields.{LabelFields}
 use Rattle.labelcache.specs.declared.cache.Placed.{Placed}
 use Rattle.labelcache.specs.Anchors.{IsTooNear}
-use Rattle.labelcache.specs.Candidate.{CandidateValue, IsTriedBefore, priority_of}
+use Rattle.labelcache.specs.Candidate.{CandidateValue, IsTextCorner, IsTriedBefore, priority_of}
 use Rattle.labelcache.specs.LabelBox.{corners, taken_at}
 use Rattle.labelcache.specs.Placement.{PageValue, Setting, IsClear, IsFirst, Stands, HasNone, IsShutOut}
 
@@ -14,6 +14,11 @@ use Rattle.labelcache.specs.Placement.{PageValue, Setting, IsClear, IsFirst, Sta
 pub record PlacingValue : Type 0 where
   pub labels : List Placed
   pub candidates : List CandidateValue
+
+-- the boxes are those of the labels, whose texts have their corners within their limits
+pub record IsKept (boxes : List PixelBoxValue) (labels : List Placed) : Type 0 where
+  pub taken : boxes ≡ map (λ (label : Placed). label.taken) labels
+  pub corners : All (λ (label : Placed). IsTextCorner label.at) labels
 
 -- a label may take a box: its tests pass on the picture and against the labels so far
 pub record IsFree (page : PageValue) (label : LabelFields) (labels : List Placed) (taken : PixelBoxValue) : Type 0 where

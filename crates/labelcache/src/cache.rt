@@ -1,10 +1,11 @@
-ghost use Rattle.std.specs.Prelude.{◌≡◌, [], ◌∷◌, ◌++◌, IfOk, OnOk, OnErr, MatchOption, None, Some, slice_get};
-ghost use Rattle.labelcache.specs.Placement.{IsPlacement, setting};
+ghost use Rattle.std.specs.Prelude.{◌≡◌, All, [], ◌∷◌, ◌++◌, IfOk, OnOk, OnErr, MatchOption, None, Some, slice_get};
+ghost use Rattle.labelcache.specs.Candidate.{IsTextCorner};
+ghost use Rattle.labelcache.specs.Placement.{IsPage, IsPlacement, setting};
 
 use crate::candidate::Candidate;
 use crate::order::place_all;
 use crate::page::Page;
-use geom::{PictureSide, Pixel, PxBox};
+use geom::{Pixel, PxBox};
 use mapdefs::Font;
 use std::alloc::{AllocError, Global};
 use std::marker::Model;
@@ -63,18 +64,15 @@ impl Cache<'_> {
         self.candidates.get(number)
     }
 
-    /// The placement of the candidates on a picture of that width and height, with the font.
+    /// The placement of the candidates on a picture of that width and height, each at most `MAX_SIDE` pixels, with the font.
     ///
     /// Where there are candidates, it takes memory for the labels, for the indices that tests query, and for some advances
     /// of the font, all from the allocator of the candidates.
     #[tactic(auto, using(crate::proofs::Unlabelled::none_placed))]
-    pub fn place(
-        &self,
-        width: PictureSide,
-        height: PictureSide,
-        font: &Font,
-    ) -> Result<Vec<Placed>, AllocError>
-        ensures { IfOk result (λ labels. IsPlacement (setting (record { width = width; height = height; font = font.now }) self.now) labels.items) }
+    pub fn place(&self, width: u16, height: u16, font: &Font) -> Result<Vec<Placed>, AllocError>
+        requires { IsPage width height }
+        ensures corners { IfOk result (λ labels. All (λ label. IsTextCorner label.at) labels.items) }
+        ensures placed { IfOk result (λ labels. IsPlacement (setting (record { width = width; height = height; font = font.now }) self.now) labels.items) }
     {
         let alloc = *self.candidates.allocator();
         if self.candidates.is_empty() {

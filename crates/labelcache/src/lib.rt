@@ -28,3 +28,4 @@ mod trial;
 
 pub use cache::{Cache, Placed};
 pub use candidate::Candidate;
+pub use collide::MAX_SIDE;

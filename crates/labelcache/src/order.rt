@@ -1,5 +1,5 @@
-ghost use Rattle.std.specs.Prelude.{◌≡◌, ◌+◌, ◌≤◌, ◌<◌, length, IfOk, OnOk};
-ghost use Rattle.labelcache.specs.Candidate.{AreWithinPriorities};
+ghost use Rattle.std.specs.Prelude.{◌≡◌, All, ◌+◌, ◌≤◌, ◌<◌, length, IfOk, OnOk};
+ghost use Rattle.labelcache.specs.Candidate.{AreWithinPriorities, IsTextCorner};
 ghost use Rattle.labelcache.specs.Placement.{IsPlacement, setting};
 ghost use Rattle.labelcache.specs.Placing.{IsPlacedTo};
 
@@ -63,7 +63,8 @@ pub fn place_all(
     candidates: &[Candidate<'_>],
 ) -> Result<Vec<Placed>, AllocError>
     requires { AreWithinPriorities candidates.now }
-    ensures { IfOk result (λ labels. IsPlacement (setting page.now candidates.now) labels.items) }
+    ensures corners { IfOk result (λ labels. All (λ label. IsTextCorner label.at) labels.items) }
+    ensures placed { IfOk result (λ labels. IsPlacement (setting page.now candidates.now) labels.items) }
 {
     let mut placing = Placing::new(alloc, page.width(), page.height())?;
     let mut priority = MAX_PRIORITY;

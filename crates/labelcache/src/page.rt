@@ -1,38 +1,37 @@
-ghost use Rattle.std.specs.Prelude.{◌≡◌, IfOk};
+ghost use Rattle.std.specs.Prelude.{◌≡◌, ◌≤◌, IfOk};
+ghost use Rattle.collide.specs.declared.marks.TheConstants.{MAX_SIDE};
 ghost use Rattle.labelcache.specs.LabelBox.{size_of};
+ghost use Rattle.labelcache.specs.Placement.{IsPage};
 
 use crate::advances::Advances;
 use crate::candidate::Candidate;
 use crate::label_box::TextSize;
-use geom::PictureSide;
 use mapdefs::Font;
 use std::alloc::{AllocError, Global};
 use std::marker::Model;
 
-/// What labels are placed on: a picture of that width and height, and the font of its texts.
+/// What labels are placed on: a picture of that width and height, each at most `MAX_SIDE` pixels, and the font of its texts.
 #[derive(Drop)]
 pub struct Page<'a> {
-    width: PictureSide,
-    height: PictureSide,
+    width: u16,
+    height: u16,
     advances: Advances<'a>,
 }
 
 impl<'a> Model for Page<'a> {
-    ghost use Rattle.labelcache.specs.Placement.{PageValue};
+    ghost use Rattle.labelcache.specs.Placement.{IsPage, PageValue};
 
     ghost Value = { PageValue };
 
     ghost view = { λ p. record { width = p.width; height = p.height; font = p.advances } };
+
+    ghost invariant = { λ p. IsPage p.width p.height };
 }
 
 impl<'a> Page<'a> {
     /// The page with that width, height and font.
-    pub fn new(
-        alloc: Global,
-        width: PictureSide,
-        height: PictureSide,
-        font: &'a Font,
-    ) -> Result<Self, AllocError>
+    pub fn new(alloc: Global, width: u16, height: u16, font: &'a Font) -> Result<Self, AllocError>
+        requires { IsPage width height }
         ensures { IfOk result (λ page. page ≡ record { width = width; height = height; font = font.now }) }
     {
         Ok(Page {
@@ -43,15 +42,17 @@ impl<'a> Page<'a> {
     }
 
     /// The width of the picture, in columns.
-    pub fn width(&self) -> PictureSide
-        ensures { result ≡ self.now.width }
+    pub fn width(&self) -> u16
+        ensures value { result ≡ self.now.width }
+        ensures limits { result ≤ MAX_SIDE }
     {
         self.width
     }
 
     /// The height of the picture, in rows.
-    pub fn height(&self) -> PictureSide
-        ensures { result ≡ self.now.height }
+    pub fn height(&self) -> u16
+        ensures value { result ≡ self.now.height }
+        ensures limits { result ≤ MAX_SIDE }
     {
         self.height
     }

@@ -1,12 +1,13 @@
 ghost use Rattle.std.specs.Prelude.{◌≡◌, ◌↔◌, [], ◌∷◌, ◌++◌, map, All, IsTrue, IfOk, OnOk};
-ghost use Rattle.labelcache.specs.Placement.{IsClear};
+ghost use Rattle.labelcache.specs.Candidate.{IsTextCorner};
+ghost use Rattle.labelcache.specs.Placement.{IsClear, IsPage};
 ghost use Rattle.labelcache.specs.Placing.{IsFar};
 
 use crate::anchors::Anchors;
 use crate::cache::Placed;
 use crate::candidate::Candidate;
 use collide::Boxes;
-use geom::{PictureSide, PxBox};
+use geom::PxBox;
 use std::alloc::{AllocError, Global};
 use std::marker::Model;
 
@@ -19,20 +20,19 @@ pub struct Placing<'a> {
 }
 
 impl<'a> Model for Placing<'a> {
-    ghost use Rattle.std.specs.Prelude.{◌≡◌, map};
-    ghost use Rattle.labelcache.specs.declared.cache.Placed.{Placed};
-    ghost use Rattle.labelcache.specs.Placing.{PlacingValue};
+    ghost use Rattle.labelcache.specs.Placing.{IsKept, PlacingValue};
 
     ghost Value = { PlacingValue };
 
     ghost view = { λ p. record { labels = p.labels.items; candidates = p.anchors } };
 
-    ghost invariant = { λ p. p.boxes ≡ map (λ (label : Placed). label.taken) p.labels.items };
+    ghost invariant = { λ p. IsKept p.boxes p.labels.items };
 }
 
 impl<'a> Placing<'a> {
     /// No labels, on a picture of that width and height.
-    pub fn new(alloc: Global, width: PictureSide, height: PictureSide) -> Result<Self, AllocError>
+    pub fn new(alloc: Global, width: u16, height: u16) -> Result<Self, AllocError>
+        requires { IsPage width height }
         ensures { IfOk result (λ placing. placing ≡ record { labels = []; candidates = [] }) }
     {
         Ok(Placing {
@@ -44,6 +44,7 @@ impl<'a> Placing<'a> {
 
     /// Adds a label of that candidate. Where memory is refused, the candidate may be added without its label.
     pub fn add(&mut self, label: Placed, candidate: Candidate<'a>) -> Result<(), AllocError>
+        requires { IsTextCorner label.at }
         ensures labels { OnOk result (self.new.labels ≡ self.old.labels ++ label ∷ []) }
         ensures candidates { OnOk result (self.new.candidates ≡ self.old.candidates ++ candidate.entry ∷ []) }
     {
@@ -62,7 +63,8 @@ impl<'a> Placing<'a> {
 
     /// The labels, in the order in which they were placed.
     pub fn into_labels(self) -> Vec<Placed>
-        ensures { result.items ≡ self.entry.labels }
+        ensures value { result.items ≡ self.entry.labels }
+        ensures corners { All (λ label. IsTextCorner label.at) result.items }
     {
         let Placing { labels, .. } = self;
         labels

@@ -1,5 +1,6 @@
 ghost use Rattle.std.specs.Prelude.{◌≡◌, ◌↔◌, false, map, All, IsTrue, IfSome, IfNone, OnOk};
-ghost use Rattle.geom.specs.PxBox.{IsInside};
+ghost use Rattle.geom.specs.PxBox.{IsInside, IsUpTo};
+ghost use Rattle.labelcache.specs.Candidate.{IsTextCorner};
 ghost use Rattle.labelcache.specs.LabelBox.{corner_at, positions, size_of, taken_at};
 ghost use Rattle.labelcache.specs.Placement.{IsClear};
 ghost use Rattle.labelcache.specs.Placing.{HasNoFree, FitsNowhere, IsFar, IsFirstFree, IsFirstFit, IsFree, Tries};
@@ -23,6 +24,7 @@ pub struct Fit {
 // The fit at a position of a candidate whose text has that size.
 fn fit_at(page: &Page<'_>, candidate: &Candidate<'_>, size: TextSize, position: Position) -> Fit
     requires { size ≡ size_of page.now.font candidate.now.text }
+    ensures corner { IsTextCorner result.at }
     ensures at { result.at ≡ corner_at candidate.now.anchor (size_of page.now.font candidate.now.text) position }
     ensures taken { result.taken ≡ taken_at page.now.font candidate.now result.at }
 {
@@ -31,11 +33,26 @@ fn fit_at(page: &Page<'_>, candidate: &Candidate<'_>, size: TextSize, position: 
     Fit { at, taken }
 }
 
+// Whether a box's first column or row and the one after its last lie on a side of so many, ends included.
+fn is_within(start: i64, end: i64, side: u16) -> bool
+    ensures { IsTrue result ↔ (IsUpTo side start × IsUpTo side end) }
+{
+    let side = i64::from(side);
+    0 <= start && start <= side && 0 <= end && end <= side
+}
+
+// Whether all four sides of a box lie within a picture of that width and height, ends included.
+fn is_inside(taken: PxBox, width: u16, height: u16) -> bool
+    ensures { IsTrue result ↔ IsInside taken width height }
+{
+    is_within(taken.left(), taken.right(), width) && is_within(taken.top(), taken.bottom(), height)
+}
+
 // Whether a box lies in the picture, or the label may be cut at its border.
 fn is_shown(page: &Page<'_>, label: &LabelFields, taken: PxBox) -> bool
     ensures { IsTrue result ↔ (label.now.partials ≡ false → IsInside taken page.now.width page.now.height) }
 {
-    label.partials || taken.inside(page.width(), page.height())
+    label.partials || is_inside(taken, page.width(), page.height())
 }
 
 // Whether a box is clear of the labels so far, or the label is forced.
@@ -59,6 +76,7 @@ fn first_free(
     candidate: &Candidate<'_>,
     positions: &[Position],
 ) -> Option<Fit>
+    ensures corner { IfSome result (λ fit. IsTextCorner fit.at) }
     ensures some { IfSome result
         (λ fit. IsFirstFree page.now placing.now.labels candidate.now
         (map (corner_at candidate.now.anchor (size_of page.now.font candidate.now.text)) positions.now)
@@ -86,6 +104,7 @@ fn first_position(
     candidate: &Candidate<'_>,
     position: Position,
 ) -> Option<Fit>
+    ensures corner { IfSome result (λ fit. IsTextCorner fit.at) }
     ensures some { IfSome result
         (λ fit. IsFirstFree page.now placing.now.labels candidate.now
         (map (corner_at candidate.now.anchor (size_of page.now.font candidate.now.text)) (positions position))
@@ -110,6 +129,7 @@ fn is_far(placing: &Placing<'_>, candidate: &Candidate<'_>) -> bool
 // The first of a candidate's corners where it fits, with the box that it takes there. The distance doesn't depend
 // on the corner, so it is tested once.
 fn first_fit(placing: &Placing<'_>, page: &Page<'_>, candidate: &Candidate<'_>) -> Option<Fit>
+    ensures corner { IfSome result (λ fit. IsTextCorner fit.at) }
     ensures some { IfSome result (λ fit. IsFirstFit page.now placing.now candidate.now fit.at fit.taken) }
     ensures none { IfNone result (FitsNowhere page.now placing.now candidate.now) }
 {

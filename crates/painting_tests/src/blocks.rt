@@ -2,18 +2,16 @@ ghost use Rattle.std.specs.Prelude.{◌≡◌, None, length, IfSome};
 ghost use Rattle.viewport.specs.View.{IsOnSide};
 
 use crate::painted_maps::{letters_of, map_of_two};
-use compose::{PictureQuery, draw_block};
+use compose::{FineScene, Labels, PictureQuery, draw_block};
 use geom::{Micro, PictureSide, WorldBox};
-use labelcache::Cache;
 use mapdefs::{AllFeatures, Map, Picture, Rgb};
 use scaledenom::Scale;
-use scene::Scene;
 use std::alloc::{AllocError, Global};
 use test_tables::{TableFault, check_rows, numbers};
 use viewport::{Factor, Fine, Heights, Stretch, View};
 
-// The picture of four degrees by four in two pixels by two, twice as fine.
-fn fine() -> Option<Fine> {
+/// The picture of four degrees by four in two pixels by two, twice as fine.
+pub(crate) fn fine() -> Option<Fine> {
     let (low, high) = (Micro::new(0), Micro::new(4_000_000));
     let side = PictureSide::with_last(1);
     let view = View::new(
@@ -25,8 +23,8 @@ fn fine() -> Option<Fine> {
     Fine::new(view, Factor::new(2)?)
 }
 
-// The scale of 0.28 degrees in a pixel.
-fn scale() -> Scale {
+/// The scale of 0.28 degrees in a pixel.
+pub(crate) fn scale() -> Scale {
     Scale::of(280_000, PictureSide::with_last(0))
 }
 
@@ -43,13 +41,30 @@ fn stretch(text: &str, side: u16) -> Option<Stretch>
     Some(Stretch { first, count })
 }
 
-// The block of a picture that a view's canvas is: the first layer over white.
-fn block(alloc: Global, map: &Map, view: View) -> Result<Picture, AllocError>
+// The first pixel of a side.
+fn first_pixel() -> Stretch
+    ensures first { result.first ≡ 0 }
+    ensures count { result.count ≡ 1 }
+{
+    Stretch {
+        first: 0,
+        count: PictureSide::with_last(0),
+    }
+}
+
+// A block of the fine picture: the first layer over white.
+fn block(
+    alloc: Global,
+    map: &Map,
+    fine: Fine,
+    sides: (Stretch, Stretch),
+) -> Result<Picture, AllocError>
     requires layers { length map.now.layers ≡ 2 }
-    requires font { map.now.font ≡ None }
+    requires across { IsOnSide fine.columns sides.0.first sides.0.count }
+    requires down { IsOnSide fine.rows sides.1.first sides.1.count }
 {
     let near = AllFeatures::of(alloc, map);
-    let scene = Scene::new(map, view, scale());
+    let scene = FineScene::new(map, fine, scale());
     let asked = PictureQuery {
         chosen: &[0],
         background: Some(Rgb {
@@ -58,8 +73,9 @@ fn block(alloc: Global, map: &Map, view: View) -> Result<Picture, AllocError>
             blue: 255,
         }),
     };
-    let labels = Cache::new(alloc);
-    let canvas = draw_block(alloc, &scene, &near, &asked, &labels, &[])?;
+    let corner = scene.block(first_pixel(), first_pixel());
+    let labels = Labels::of_whole(alloc, &corner, &near, asked.chosen)?;
+    let canvas = draw_block(&scene.block(sides.0, sides.1), &near, &asked, &labels)?;
     Ok(canvas.into_picture())
 }
 
@@ -72,7 +88,7 @@ fn block_of_row(alloc: Global, row: &str) -> Result<String, AllocError> {
     let fine = fine().ok_or(AllocError)?;
     let across = stretch(across, fine.columns()).ok_or(AllocError)?;
     let down = stretch(down, fine.rows()).ok_or(AllocError)?;
-    letters_of(alloc, &block(alloc, &map, fine.block(across, down))?)
+    letters_of(alloc, &block(alloc, &map, fine, (across, down))?)
 }
 
 // Blocks of pictures of four fine pixels by four.

@@ -10,3 +10,5 @@ mod near_features;
 mod painted_maps;
 #[cfg(test)]
 mod painted_pixels;
+#[cfg(test)]
+mod smoothed;

@@ -15,8 +15,8 @@ use test_maps::{map_fields, one_feature, place};
 use test_tables::numbers;
 use viewport::{Heights, View};
 
-// The colours by their letters: `#` is brown, `o` dark and `.` white. Any other letter is none.
-fn colour_of(letter: u8) -> Option<Rgb> {
+/// The colours by their letters: `#` is brown, `o` dark and `.` white. Any other letter is none.
+pub(crate) fn colour_of(letter: u8) -> Option<Rgb> {
     let (red, green, blue) = match letter {
         b'#' => (100, 60, 20),
         b'o' => (10, 20, 30),

@@ -1,4 +1,4 @@
-ghost use Rattle.std.specs.Prelude.{◌≡◌};
+ghost use Rattle.std.specs.Prelude.{◌≡◌, ◌*◌};
 ghost use Rattle.viewport.specs.View.{IsOnSide, block_of, factor_by, fine_by};
 ghost use Rattle.viewport.specs.declared.fine.TheConstants.{MAX_FACTOR};
 
@@ -90,6 +90,27 @@ impl Fine {
             return Some(Fine { view, factor });
         }
         None
+    }
+
+    /// How many of its pixels a map's pixel is, in both directions.
+    pub fn factor(&self) -> Factor
+        ensures { result ≡ self.now.factor }
+    {
+        self.factor
+    }
+
+    /// How many columns of the map's pixels it has.
+    pub fn plain_columns(&self) -> PictureSide
+        ensures { self.now.columns ≡ self.now.factor * result }
+    {
+        PictureSide::with_last(self.view.columns() - 1)
+    }
+
+    /// How many rows of the map's pixels it has.
+    pub fn plain_rows(&self) -> PictureSide
+        ensures { self.now.rows ≡ self.now.factor * result }
+    {
+        PictureSide::with_last(self.view.rows() - 1)
     }
 
     /// How many columns of pixels it has.

@@ -1,4 +1,4 @@
-ghost use Rattle.std.specs.Prelude.{◌≡◌, ◌<◌, ◌≤◌, ◌*◌, ◌^◌, IsTrue};
+ghost use Rattle.std.specs.Prelude.{◌≡◌, ◌<◌, ◌≤◌, ◌+◌, ◌*◌, ◌^◌, IsTrue};
 ghost use Rattle.geom.specs.Device.{pixel_of};
 ghost use Rattle.geom.specs.Range.{IsBelow};
 ghost use Rattle.geom.specs.World.{IsCoordinate, IsExtent};
@@ -115,6 +115,15 @@ impl Projection {
     {
         let _columns = self.view.columns();
         self.view.window(margin)
+    }
+
+    /// The part of the world that a canvas of so many columns and rows shows which begins with the same pixel.
+    pub fn window_of(&self, columns: u16, rows: u16) -> WorldBox
+        requires across { self.now.left + columns ≤ self.now.columns }
+        requires down { self.now.top + rows ≤ self.now.rows }
+        ensures { result ≡ window (record self.now { width = columns; height = rows }) 0 }
+    {
+        self.view.window_of(columns, rows, 0)
     }
 
     /// Where a place lies on the picture, or off it.

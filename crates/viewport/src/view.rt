@@ -1,4 +1,4 @@
-ghost use Rattle.std.specs.Prelude.{◌≡◌, ◌≤◌, ◌<◌, ◌^◌, pos, ◌+ℤ◌, ◌-ℤ◌, unsigned_abs, IsTrue};
+ghost use Rattle.std.specs.Prelude.{◌≡◌, ◌≤◌, ◌<◌, ◌+◌, ◌^◌, pos, ◌+ℤ◌, ◌-ℤ◌, unsigned_abs, IsTrue};
 ghost use Rattle.geom.specs.Device.{pixel_of};
 ghost use Rattle.geom.specs.Range.{IsBelow, IsWithin};
 ghost use Rattle.geom.specs.World.{IsCoordinate, IsExtent};
@@ -215,10 +215,20 @@ impl View {
         requires { margin ≤ MAX_MARGIN }
         ensures { result ≡ window self margin }
     {
+        self.window_of(self.width.pixels(), self.height.pixels(), margin)
+    }
+
+    // The same of a canvas of so many columns and rows that begins with the same pixel.
+    pub(crate) fn window_of(self, columns: u16, rows: u16, margin: u16) -> WorldBox
+        requires across { self.left + columns ≤ self.columns }
+        requires down { self.top + rows ≤ self.rows }
+        requires margin { margin ≤ MAX_MARGIN }
+        ensures { result ≡ window (record self { width = columns; height = rows }) margin }
+    {
         WorldBox::new(
             self.west(margin),
-            self.south(margin),
-            self.east(margin),
+            self.south(rows, margin),
+            self.east(columns, margin),
             self.north(margin),
         )
     }
@@ -233,21 +243,23 @@ impl View {
         more(low, shown_before(column, self.columns, span(low, high)))
     }
 
-    fn east(self, margin: u16) -> Micro
-        requires { margin ≤ MAX_MARGIN }
-        ensures { result ≡ (window self margin).maxx }
+    fn east(self, columns: u16, margin: u16) -> Micro
+        requires across { self.left + columns ≤ self.columns }
+        requires margin { margin ≤ MAX_MARGIN }
+        ensures { result ≡ (window (record self { width = columns }) margin).maxx }
     {
         let (low, high) = (self.area.minx(), self.area.maxx());
-        let column = self.left + self.width.pixels() + margin;
+        let column = self.left + columns + margin;
         more(low, shown_by(column, self.columns, span(low, high)))
     }
 
-    fn south(self, margin: u16) -> Micro
-        requires { margin ≤ MAX_MARGIN }
-        ensures { result ≡ (window self margin).miny }
+    fn south(self, rows: u16, margin: u16) -> Micro
+        requires down { self.top + rows ≤ self.rows }
+        requires margin { margin ≤ MAX_MARGIN }
+        ensures { result ≡ (window (record self { height = rows }) margin).miny }
     {
         let (low, high) = (self.area.miny(), self.area.maxy());
-        let row = self.top + self.height.pixels() + margin;
+        let row = self.top + rows + margin;
         let by = shown_by(row, self.rows, span(low, high));
         Micro::new(self.heights.south(less(high, by).millionths()))
     }

@@ -7,7 +7,7 @@ returns-in_default c = unlabelled c.args.scene.now c.args.labels.now c.args.canv
 
 pub returns : goal.returns
 returns c =
-    let placed = rw (c.width.ensures, c.height.ensures, c.projection-projection.ensures) at c.in_ok-placed.ensures in
+    let placed = rw (c.pixels.ensures.value, c.pixels-2.ensures.value, c.width.ensures, c.height.ensures, c.projection-projection.ensures) at c.in_ok-placed.ensures.placed in
     on_ok_weaker c.paint_placed.result
     (λ painted. labelled c.args.scene.now c.in-Some.font.now c.args.labels.now c.in_ok-placed.placed.items c.args.canvas.now c.paint_placed.new.canvas c.in-Some.ensures placed
     (rw c.deref.ensures.value at painted))

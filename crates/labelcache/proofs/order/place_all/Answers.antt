@@ -14,9 +14,9 @@ loop-priority-preserved c =
     next-priority s (c.loop-priority.priority - 1) c.place_priority.new.placing
     (subst (λ p. IsPlacedTo s p 0 c.place_priority.new.placing) e c.in_ok-place_priority.ensures)
 
-pub returns : goal.returns
-returns c =
+pub returns-clause-placed : goal.returns-clause-placed
+returns-clause-placed c =
     let s = setting c.args.page.now c.args.candidates.now in
     let e : c.loop-priority.priority ≡ 0 = omega (arith, c.loop-priority-test.false) in
     let placed = subst (λ p. IsPlacedTo s p (length c.args.candidates.now) c.loop-priority.placing) e c.loop-priority.invariant in
-    rw c.into_labels.ensures (ends s c.loop-priority.placing c.requires placed)
+    rw c.into_labels.ensures.value (ends s c.loop-priority.placing c.requires placed)
