@@ -159,7 +159,7 @@ class Servers(unittest.TestCase):
         with mock.patch.dict(os.environ, {"KESMOCH_SERVER": " ".join(address for address, _ in played)}), mock.patch.object(wmsformats, "TURNS", itertools.count()):
             for number in range(count):
                 try:
-                    found.append(wmsformats.ask(f"a={number}")[2])
+                    found.append(wmsformats.ask(f"a={number}", wmsformats.servers())[2])
                 except wmsformats.Unanswered as why:
                     found.append(why.args[0])
         self.assertTrue(all(query.startswith("/wms?a=") for _, asked in played for query in asked))
@@ -191,7 +191,7 @@ class Servers(unittest.TestCase):
 
         with mock.patch.dict(os.environ, {"KESMOCH_SERVER": "http://a/ http://b/"}), mock.patch.object(wmsformats, "ask_one", ask_one):
             with self.assertRaises(wmsformats.Unanswered) as found:
-                wmsformats.ask("")
+                wmsformats.ask("", wmsformats.servers())
         self.assertEqual(found.exception.args[0], "504 Gateway Timeout")
 
 
@@ -208,17 +208,21 @@ class Options(unittest.TestCase):
 class Answers(unittest.TestCase):
     def answer(self, query, *answers):
         """The answer to a query, and what the server was asked."""
-        asked, left = [], list(answers)
+        asked, left, orders = [], list(answers), []
 
-        def ask(sent):
+        def ask(sent, order):
             asked.append(sent)
+            orders.append(order)
             return left.pop(0)
 
         environ = {"REQUEST_METHOD": "GET", "QUERY_STRING": query}
         packs = {"image/png": ("image/png", lambda picture: b"packed", True), "image/webp": ("image/webp", lambda picture: b"packed", True)}
         with mock.patch.object(wmsformats, "ask", ask), mock.patch.object(wmsformats, "picture_of", lambda body: body), \
                 mock.patch.dict(wmsformats.FORMATS, packs):
-            return wmsformats.answer(environ), asked
+            answer = wmsformats.answer(environ)
+        # all that one request asks begins with one server
+        self.assertTrue(all(order is orders[0] for order in orders))
+        return answer, asked
 
     def test_a_png_is_the_servers_own_where_it_has_one(self):
         answer, asked = self.answer(f"{MAP}&FORMAT=image/png", ("200 OK", "image/png", b"own"))
