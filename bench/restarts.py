@@ -22,7 +22,8 @@ import time
 from served import ports_of
 
 TOP = pathlib.Path(__file__).resolve().parent.parent
-ROUNDS, AWAY = 2, 0.7
+# How often each is restarted, and the seconds for which it is away.
+ROUNDS, AWAY = 2, 0.4
 MAP = """MAP NAME "m" EXTENT 0 0 10 10
 LAYER NAME "a" TYPE POLYGON TEMPLATE "x" PROCESSING "ITEMS=n"
 CLASS STYLE COLOR 10 200 30 END END
