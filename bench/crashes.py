@@ -13,8 +13,9 @@ synced after.
 
 After each the server is started again: its sequence, its pictures and the features that it lists have to be those of
 a list of batches that begins with all that was reported to a client, and that each was submitted. At last a byte of a journal
-is changed at random, CHANGES times, 10,000 where it isn't given: the server refuses it and leaves it as it is, or the last
-record is cut off, and no other. It ends with 1 where something else came out.
+is changed at random, or the journal is cut, CHANGES times, 10,000 where it isn't given: the server refuses it and leaves it as it is,
+or a record that an append wrote last is cut off, and no other. That is done with a journal that was never compacted and with one that
+was, half of the times in the header. It ends with 1 where something else came out.
 """
 import collections
 import itertools
@@ -32,12 +33,14 @@ import tempfile
 import threading
 import time
 
-from point_batches import MAP, State, answers_of, append, batch_by_lot, sequence_of
+from point_batches import MAP, Batch, State, answers_of, append, batch_by_lot, sequence_of
 from served import ports_of
 
 # the kills after which a new journal is begun, so that a start doesn't take longer and longer
 LIVES = 50
 LONGEST = 60
+# the bytes of the longest header of a journal
+HEADER = 98
 SHIM = r"""
 #define _GNU_SOURCE
 #include <dlfcn.h>
@@ -461,13 +464,23 @@ def calls_of(bench, found):
                 at += 1
 
 
+def end_of(sizes, place, is_cut):
+    """The size to which the server cuts a journal whose byte at a place is changed, or that is cut there: None where it refuses it. The sizes are those at which it may end."""
+    if is_cut:
+        return max((size for size in sizes if size <= place), default=None)
+    return sizes[-2] if place >= sizes[-2] else None
+
+
 def changed(job):
-    """A journal with a byte changed: what a start makes of it."""
-    program, data, prefixes, seed = job
+    """A journal with a byte changed, or cut: what a start makes of it."""
+    program, data, sizes, seed = job
     chance = random.Random(seed)
-    place, change = chance.randrange(len(data)), chance.randrange(1, 256)
+    # half of the places are in the header
+    place, change, is_cut = chance.randrange(chance.choice((HEADER, len(data)))), chance.randrange(1, 256), chance.random() < 0.25
     other = bytearray(data)
     other[place] ^= change
+    if is_cut:
+        other = data[:place]
     with tempfile.TemporaryDirectory() as folder:
         path = pathlib.Path(folder)
         (path / "map.map").write_text(MAP)
@@ -475,26 +488,40 @@ def changed(job):
         words = [program, "serve", "map.map", "--port", "0", "--admin-port", "0", "--until-input-ends", "--journal", "journal"]
         done = subprocess.run(words, cwd=folder, stdin=subprocess.DEVNULL, capture_output=True, timeout=LONGEST)
         left = (path / "journal").read_bytes()
-    refused = re.fullmatch(rb"fault journal journal: ([a-z ]+)( \d+)?\n", done.stderr)
-    if done.returncode == 1 and refused and left == bytes(other):
+    refused = re.fullmatch(rb"fault journal journal: ([^\n]+?)( \d+)?\n", done.stderr)
+    end = end_of(sizes, place, is_cut)
+    if end is None and done.returncode == 1 and refused and left == bytes(other):
         return f"refused: {refused[1].decode()}"
-    if done.returncode == 0 and left == prefixes[-1] and place >= len(prefixes[-1]):
-        return "the last record is cut off"
-    return f"wrong: byte {place} of {len(data)} by {change}: {done.returncode}, {done.stderr!r}, {len(left)} bytes left"
+    if end is not None and done.returncode == 0 and left == data[:end]:
+        return "a torn record is cut off"
+    did = "cut" if is_cut else f"changed by {change}"
+    return f"wrong: {did} at {place} of {len(data)}: {done.returncode}, {done.stderr!r}, {len(left)} bytes left"
+
+
+def compact(bench, life):
+    """Has the journal compacted: the batches leave an OFF, a CLEAR and an APPEND, in two records."""
+    batches = [Batch(b"OFF b\n", None), *(append(bench.chance, f"filling {number}", False, 300_000) for number in range(3))]
+    batches.append(Batch(b"CLEAR a\n" * 20_000 + append(bench.chance, "left", False).data, None))
+    if not all(life.submit(batch)[0].startswith(b"PUBLISHED") for batch in batches):
+        raise Wrong("a batch isn't published")
+    if not bench.journal.read_bytes().startswith(b"KESMOCH JOURNAL 3\n"):
+        raise Wrong("the journal isn't compacted")
 
 
 def changes_of(bench, count, found):
-    """A byte of a journal of 20 batches, changed at random."""
+    """A byte of a journal of 20 batches is changed at random, or the journal is cut there; with checkpoints, one that was compacted, with ten batches after that."""
     bench.renew()
     life = bench.must_start()
+    if bench.has_checkpoints:
+        compact(bench, life)
     sizes = [bench.journal.stat().st_size]
-    while len(sizes) < 21:
-        if life.submit(bench.batch())[0].startswith(b"PUBLISHED"):
+    while len(sizes) < (11 if bench.has_checkpoints else 21):
+        bench.number += 1
+        if life.submit(batch_by_lot(bench.chance, str(bench.number)))[0].startswith(b"PUBLISHED"):
             sizes.append(bench.journal.stat().st_size)
     life.end()
     data = bench.journal.read_bytes()
-    prefixes = [data[:size] for size in sizes[-2:-1]]
-    jobs = ((bench.program, data, prefixes, f"{bench.chance.random()}") for _ in range(count))
+    jobs = ((bench.program, data, sizes, f"{bench.chance.random()}") for _ in range(count))
     with multiprocessing.Pool() as pool:
         for outcome in pool.imap_unordered(changed, jobs, 16):
             found[outcome] += 1
@@ -517,7 +544,7 @@ def main():
         subprocess.run(["cc", "-shared", "-fPIC", "-o", shim, f"{folder}/shim.c", "-ldl"], check=True)
         bench = Bench(os.path.abspath(words[0]), shim, folder, seed)
         parts = (("kills", lambda found: kills_of(bench, kills, found)), ("calls", lambda found: calls_of(bench, found)), ("changes", lambda found: changes_of(bench, changes, found)))
-        for part, act in (*parts, *((f"{part} with checkpoints", act) for part, act in parts[:2])):
+        for part, act in (*parts, *((f"{part} with checkpoints", act) for part, act in parts)):
             found, begun = collections.Counter(), time.monotonic()
             bench.has_checkpoints = part.endswith("checkpoints")
             try:

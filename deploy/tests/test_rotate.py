@@ -71,18 +71,33 @@ class Journals(unittest.TestCase):
             self.batches(journal(b"ON a\n") + record(3, b"ON b\n"))
 
     def test_another_file_is_no_journal(self):
-        none = b"KESMOCH JOURNAL 2\n" + FINGERPRINT + bytes(8)
-        for data in (b"", b"KESMOCH JOURNAL 1\n" + FINGERPRINT[:31], none[:-1], none, b"KESMOCH JOURNAL 3\n" + FINGERPRINT):
-            with self.assertRaises(rotate.Unreadable):
+        for data in (b"", b"KESMOCH JOURNAL 1\n" + FINGERPRINT[:31], b"KESMOCH JOURNAL 4\n" + FINGERPRINT):
+            with self.assertRaisesRegex(rotate.Unreadable, "is no journal"):
+                self.batches(data)
+        with self.assertRaisesRegex(rotate.Unreadable, "of an earlier form"):
+            self.batches(b"KESMOCH JOURNAL 2\n" + FINGERPRINT + (3).to_bytes(8, "big"))
+
+    def test_a_compacted_journal_has_a_longer_name_and_its_digest(self):
+        name = (70_000).to_bytes(8, "big") + (1).to_bytes(8, "big") + FINGERPRINT
+        begin = b"KESMOCH JOURNAL 3\n" + name + hashlib.sha256(name).digest()
+        first = begin + record(1, b"ON a\n", name)
+        self.assertEqual(self.batches(first), [b"ON a\n"])
+        self.assertEqual(self.batches(first + record(2, b"CLEAR bc\n", name)), [b"ON a\n", b"CLEAR bc\n"])
+        self.assertEqual(self.batches(first + record(2, b"CLEAR bc\n", name)[:-1]), [b"ON a\n"])
+        # the batch that was written with the header is there; a record of the map before it was compacted is none of it
+        for data in (begin, first[:-1], begin + record(1, b"ON a\n"), begin + record(2, b"ON a\n", name)):
+            with self.assertRaisesRegex(rotate.Unreadable, "is damaged after record 0"):
                 self.batches(data)
 
-    def test_a_compacted_journal_has_a_longer_name(self):
-        name = FINGERPRINT + (70_000).to_bytes(8, "big")
-        begin = b"KESMOCH JOURNAL 2\n" + name
-        self.assertEqual(self.batches(begin), [])
-        self.assertEqual(self.batches(begin + record(1, b"ON a\n", name) + record(2, b"CLEAR bc\n", name)), [b"ON a\n", b"CLEAR bc\n"])
-        # a record of the map before it was compacted is none of it
-        self.assertEqual(self.batches(begin + record(1, b"ON a\n")), [])
+    def test_each_changed_byte_of_a_compacted_header_is_damage(self):
+        name = (5).to_bytes(8, "big") + bytes(8) + FINGERPRINT
+        data = b"KESMOCH JOURNAL 3\n" + name + hashlib.sha256(name).digest()
+        self.assertEqual(self.batches(data), [])
+        for at in range(18, len(data)):
+            with self.assertRaisesRegex(rotate.Unreadable, "the header of .* is damaged", msg=at):
+                self.batches(data[:at] + bytes([data[at] ^ 1]) + data[at + 1 :])
+            with self.assertRaisesRegex(rotate.Unreadable, "the header of .* is damaged", msg=at):
+                self.batches(data[:at])
 
 
 class Layers(unittest.TestCase):

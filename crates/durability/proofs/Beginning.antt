@@ -1,10 +1,11 @@
 -- Until the first checkpoint the journal has all batches.
-use Rattle.std.proofs.Common.{◌≡◌, inl, inr, ℕ, List, [], ◌∷◌, ◌++◌, length, sym, ap, subst, arith}
-use Rattle.std.specs.Prelude.{Option}
+use Rattle.std.proofs.Common.{◌≡◌, inl, inr, ℕ, ◌≤◌, List, [], ◌∷◌, ◌++◌, length, Option, None, sym, ap, subst, arith}
 use Rattle.std.proofs.lemmas.List.{append-nil}
 use Rattle.sha2.specs.Sha256.{sha256}
-use Rattle.journal.specs.Record.{header, journal_of, name_of}
+use Rattle.journal.specs.Name.{journal_name, name_of, written_of}
+use Rattle.journal.specs.Record.{header, journal_of}
 use Rattle.journal.specs.Reading.{StandsFor}
+use Rattle.journal.specs.declared.name.Compaction.{Compaction}
 use Rattle.journal.proofs.Standing.{stands}
 use Rattle.durability.specs.Service.{Service, Event, Journal, Published, IsFileOf, IsSubmitted, IsStarted, IsStep, IsRun, with_batch}
 use Rattle.durability.specs.Service.Service.{Running, Stopped}
@@ -20,20 +21,20 @@ module _ {S : Type 0} (accepted : S → List ℕ → Option S) (skipping : ℕ �
   becomes new other is has = subst All (sym is) has
 
   -- the file of a journal that has all batches
-  of_all : (journal : Journal) (batches : List (List ℕ)) (file : List ℕ) → journal.skipped ≡ 0 → journal.own ≡ batches → StandsFor (name_of fingerprint journal.skipped) file journal.own
-      → StandsFor fingerprint file batches
+  of_all : (journal : Journal) (batches : List (List ℕ)) (file : List ℕ) → journal.compaction ≡ None → journal.own ≡ batches → StandsFor (journal_name fingerprint journal.compaction) file journal.own
+      → StandsFor (journal_name fingerprint None) file batches
   of_all journal batches file none own stood =
-      subst (StandsFor fingerprint file) own (subst (λ (n : ℕ). StandsFor (name_of fingerprint n) file journal.own) none stood)
+      subst (StandsFor (journal_name fingerprint None) file) own (subst (λ (c : Option Compaction). StandsFor (journal_name fingerprint c) file journal.own) none stood)
 
   -- the journal of a file that stands for all batches has all of them
-  all_of : (batches : List (List ℕ)) (file : List ℕ) (journal : Journal) → StandsFor fingerprint file batches → IsFileOf fingerprint journal file
-      → (journal.skipped ≡ 0) × (journal.own ≡ batches)
+  all_of : (batches : List (List ℕ)) (file : List ℕ) (journal : Journal) → StandsFor (journal_name fingerprint None) file batches → IsFileOf fingerprint journal file
+      → (journal.compaction ≡ None) × (journal.own ≡ batches)
   all_of batches file journal stood read =
-      let whole : Journal = record { skipped = 0; own = batches } in
-      let same : journal ≡ whole = one_journal accepted skipping fingerprint start skips long journal whole file read (record { bounded = omega arith; stands = stood }) in
-      (ap (λ (j : Journal). j.skipped) same, ap (λ (j : Journal). j.own) same)
+      let whole : Journal = record { compaction = None; own = batches } in
+      let same : journal ≡ whole = one_journal accepted skipping fingerprint start skips long journal whole file read (record { bounded = (omega arith, omega arith); stands = stood }) in
+      (ap (λ (j : Journal). j.compaction) same, ap (λ (j : Journal). j.own) same)
 
-  module _ (journal : Journal) (batches shown : List (List ℕ)) (none : journal.skipped ≡ 0) (own : journal.own ≡ batches) where
+  module _ (journal : Journal) (batches shown : List (List ℕ)) (none : journal.compaction ≡ None) (own : journal.own ≡ batches) where
     more : (b : List ℕ) → journal.own ++ b ∷ [] ≡ batches ++ b ∷ []
     more b = ap (λ (l : List (List ℕ)). l ++ b ∷ []) own
 
@@ -45,15 +46,16 @@ module _ {S : Type 0} (accepted : S → List ℕ → Option S) (skipping : ℕ �
     submits b now new (inr (inr (file, inr (some, left, (nothing, is))))) =
         becomes new (Stopped (batches ++ b ∷ []) file) is (of_all (with_batch journal b) (batches ++ b ∷ []) file none (more b) left.stands)
 
-    crash_left : StandsFor fingerprint (journal_of sha256 (name_of fingerprint journal.skipped) journal.own) batches
+    crash_left : StandsFor (journal_name fingerprint None) (journal_of sha256 (name_of fingerprint journal.compaction) journal.own) batches
     crash_left =
-        of_all journal batches (journal_of sha256 (name_of fingerprint journal.skipped) journal.own) none own (stands (name_of fingerprint journal.skipped) journal.own)
+        let few : written_of journal.compaction ≤ length journal.own = omega (arith, ap written_of none) in
+        of_all journal batches (journal_of sha256 (name_of fingerprint journal.compaction) journal.own) none own (stands (journal_name fingerprint journal.compaction) journal.own few)
 
-  starts : (batches : List (List ℕ)) (file : List ℕ) (now : List (Published S)) (new : Service) → StandsFor fingerprint file batches
+  starts : (batches : List (List ℕ)) (file : List ℕ) (now : List (Published S)) (new : Service) → StandsFor (journal_name fingerprint None) file batches
       → IsStarted accepted skipping fingerprint start batches file now new → All new
   starts batches file now new stood (inl (journal, read, (shows, is))) = becomes new (Running journal batches batches) is (all_of batches file journal stood read)
   starts batches file now new stood (inr (other, inl alike, (nothing, is))) =
-      becomes new (Stopped batches other) is (subst (λ (f : List ℕ). StandsFor fingerprint f batches) (sym alike) stood)
+      becomes new (Stopped batches other) is (subst (λ (f : List ℕ). StandsFor (journal_name fingerprint None) f batches) (sym alike) stood)
   starts batches file now new stood (inr (other, inr (journal, here, there), (nothing, is))) =
       let same = all_of batches file journal stood here in
       becomes new (Stopped batches other) is (of_all journal batches other same.0 same.1 there.stands)
@@ -65,7 +67,7 @@ module _ {S : Type 0} (accepted : S → List ℕ → Option S) (skipping : ℕ �
   step_whole (Running journal batches shown) Retry now new no_checkpoint has (inr (nothing, is)) = becomes new (Running journal batches shown) is has
   step_whole (Running journal batches shown) Checkpoint now new no_checkpoint has step = absurd no_checkpoint
   step_whole (Running journal batches shown) Crash now new no_checkpoint (none, own) (nothing, is) =
-      becomes new (Stopped batches (journal_of sha256 (name_of fingerprint journal.skipped) journal.own)) is (crash_left journal batches shown none own)
+      becomes new (Stopped batches (journal_of sha256 (name_of fingerprint journal.compaction) journal.own)) is (crash_left journal batches shown none own)
   step_whole (Running journal batches shown) Start now new no_checkpoint has (nothing, is) = becomes new (Running journal batches shown) is has
   step_whole (Stopped batches file) Start now new no_checkpoint has step = starts batches file now new has step
   step_whole (Stopped batches file) (Submit b) now new no_checkpoint has (nothing, is) = becomes new (Stopped batches file) is has
@@ -90,4 +92,6 @@ module _ {S : Type 0} (accepted : S → List ℕ → Option S) (skipping : ℕ �
 
   pub whole : IsWhole accepted skipping fingerprint start
   whole events published new none run =
-      run_whole events (Stopped [] (header fingerprint)) published new none (subst (λ (f : List ℕ). StandsFor fingerprint f []) (append-nil (header fingerprint)) (stands fingerprint [])) run
+      let name = journal_name fingerprint None in
+      let begins = subst (λ (f : List ℕ). StandsFor name f []) (append-nil (header sha256 fingerprint)) (stands name [] (omega arith)) in
+      run_whole events (Stopped [] (header sha256 fingerprint)) published new none begins run

@@ -1,15 +1,16 @@
 -- The batches of a service, along its lives.
-use Rattle.std.proofs.Common.{◌≡◌, inl, inr, ℕ, List, [], ◌∷◌, ◌++◌, length, All, None, Some, refl, sym, ◌∙◌, ap, subst, append_assoc, arith}
+use Rattle.std.proofs.Common.{◌≡◌, inl, inr, ℕ, List, [], ◌∷◌, ◌++◌, length, All, None, Some, refl, sym, ◌∙◌, ap, subst, append_assoc, length-append, arith}
 use Rattle.std.specs.Prelude.{Option, IsSome, IsSomeAnd}
 use Rattle.std.specs.Option.{option_and_then}
 use Rattle.std.proofs.lemmas.List.{append-nil}
 use Rattle.std.proofs.lemmas.List.Elements.{All-nil, All-cons, All-append, All-head, All-tail}
 use mathlib.Core.List.{IsPrefix}
 use Rattle.sha2.specs.Sha256.{sha256}
-use Rattle.journal.specs.Record.{header, journal_of, name_of, records}
+use Rattle.journal.specs.Name.{journal_name, name_of, skipped_of}
+use Rattle.journal.specs.Record.{header, journal_of}
 use Rattle.journal.specs.Reading.{StandsFor}
-use Rattle.journal.proofs.Names.{one_name}
-use Rattle.journal.proofs.Standing.{stands, one_standing}
+use Rattle.journal.specs.declared.name.Compaction.{Compaction}
+use Rattle.journal.proofs.Standing.{stands, one_journal as one_standing}
 use Rattle.sharing.specs.Sharing.{after}
 use Rattle.sharing.specs.Shortened.{IsShortOf}
 use Rattle.sharing.proofs.Accepting.{after_append}
@@ -62,7 +63,7 @@ module _ {S : Type 0} (accepted : S → List ℕ → Option S) (skipping : ℕ �
   leads_more : (journal : Journal) (batches : List (List ℕ)) (batch : List ℕ) → IsJournalOf accepted skipping journal batches → IsSome (after accepted start batches)
       → state_of accepted skipping fingerprint start (with_batch journal batch) ≡ after accepted start (batches ++ batch ∷ [])
   leads_more journal batches batch is some =
-      after_append accepted (skipping journal.skipped start) journal.own (batch ∷ [])
+      after_append accepted (skipping (skipped_of journal.compaction) start) journal.own (batch ∷ [])
       ∙ ap (option_and_then (λ state. after accepted state (batch ∷ []))) (leads journal batches is some)
       ∙ sym (after_append accepted start batches (batch ∷ []))
 
@@ -70,26 +71,15 @@ module _ {S : Type 0} (accepted : S → List ℕ → Option S) (skipping : ℕ �
       → IsJournalOf accepted skipping (with_batch journal batch) (batches ++ batch ∷ [])
   with_more journal batches batch is = record {
     bounded = is.bounded;
-    short = short_more accepted skipping journal.skipped journal.own batches (batch ∷ []) is.short;
+    whole = omega (arith, is.whole, length-append journal.own (batch ∷ []));
+    short = short_more accepted skipping (skipped_of journal.compaction) journal.own batches (batch ∷ []) is.short;
   }
 
   -- a file stands for one journal
   pub one_journal : (a b : Journal) (file : List ℕ) → IsFileOf fingerprint a file → IsFileOf fingerprint b file → a ≡ b
   one_journal a b file is_a is_b =
-      let parts_a = is_a.stands in
-      let parts_b = is_b.stands in
-      let same = one_name fingerprint fingerprint a.skipped b.skipped
-      (records sha256 (name_of fingerprint a.skipped) 1 a.own ++ parts_a.0) (records sha256 (name_of fingerprint b.skipped) 1 b.own ++ parts_b.0)
-      long long is_a.bounded is_b.bounded
-      (sym (append_assoc (header (name_of fingerprint a.skipped)) (records sha256 (name_of fingerprint a.skipped) 1 a.own) parts_a.0)
-      ∙ sym parts_a.1.whole ∙ parts_b.1.whole
-      ∙ append_assoc (header (name_of fingerprint b.skipped)) (records sha256 (name_of fingerprint b.skipped) 1 b.own) parts_b.0) in
-      by same.1
-    where
-      by : a.skipped ≡ b.skipped → a ≡ b
-      by skipped =
-          let own = one_standing (name_of fingerprint b.skipped) file a.own b.own (subst (λ (n : ℕ). StandsFor (name_of fingerprint n) file a.own) skipped is_a.stands) is_b.stands in
-          ap (λ (n : ℕ). record { skipped = n; own = a.own }) skipped ∙ ap (λ (l : List (List ℕ)). record { skipped = b.skipped; own = l }) own
+      let same = one_standing fingerprint a.compaction b.compaction file a.own b.own long is_a.bounded is_b.bounded is_a.stands is_b.stands in
+      ap (λ (c : Option Compaction). record { compaction = c; own = a.own }) same.0 ∙ ap (λ (l : List (List ℕ)). record { compaction = b.compaction; own = l }) same.1
 
   abbrev Keeps : Service → List (Published S) → List (List ℕ) → Type 0
   Keeps service published given = KeepsBatches accepted skipping fingerprint start service published given
@@ -175,8 +165,9 @@ module _ {S : Type 0} (accepted : S → List ℕ → Option S) (skipping : ℕ �
     shortened : (other : Journal) → IsShorter accepted skipping fingerprint start other journal → IsJournalOf accepted skipping other batches
     shortened other is = record {
       bounded = is.bounded;
+      whole = is.whole;
       short = subst (λ (n : ℕ). IsShortOf accepted skipping n other.own batches) (sym is.counted)
-          (short_again accepted skipping journal.skipped is.more other.own journal.own batches (skips.more journal.skipped is.more) k.has.short is.short);
+          (short_again accepted skipping (skipped_of journal.compaction) is.more other.own journal.own batches (skips.more (skipped_of journal.compaction) is.more) k.has.short is.short);
     }
 
     compacts : (now : List (Published S)) (new : Service) → IsCheckpoint accepted skipping fingerprint start journal batches shown now new → Keeps new (published ++ now) (given ++ [])
@@ -191,9 +182,9 @@ module _ {S : Type 0} (accepted : S → List ℕ → Option S) (skipping : ℕ �
 
     crashes : (now : List (Published S)) (new : Service) → IsStep accepted skipping fingerprint start old Crash now new → Keeps new (published ++ now) (given ++ [])
     crashes now new (none, is) =
-        let file = journal_of sha256 (name_of fingerprint journal.skipped) journal.own in
+        let file = journal_of sha256 (name_of fingerprint journal.compaction) journal.own in
         same old new published now given [] k (ap batches_of is) (nothing batches now none)
-        (becomes new (Stopped batches file) is (journal, record { bounded = k.has.bounded; stands = stands (name_of fingerprint journal.skipped) journal.own }, k.has))
+        (becomes new (Stopped batches file) is (journal, record { bounded = k.has.bounded; stands = stands (journal_name fingerprint journal.compaction) journal.own k.has.whole }, k.has))
 
   module _ (batches : List (List ℕ)) (file : List ℕ) (published : List (Published S)) (given : List (List ℕ)) (k : Keeps (Stopped batches file) published given) where
     abbrev was : Service
@@ -248,14 +239,19 @@ module _ {S : Type 0} (accepted : S → List ℕ → Option S) (skipping : ℕ �
 
   -- an empty journal
   abbrev empty : Journal
-  empty = record { skipped = 0; own = [] }
+  empty = record { compaction = None; own = [] }
 
-  first : Keeps (Stopped [] (header fingerprint)) [] []
+  first : Keeps (Stopped [] (header sha256 fingerprint)) [] []
   first = record {
     has = (
       empty,
-      record { bounded = omega arith; stands = subst (λ (f : List ℕ). StandsFor fingerprint f []) (append-nil (header fingerprint)) (stands fingerprint []) },
-      record { bounded = omega arith; short = short_self accepted skipping [] skips.none },
+      record {
+        bounded = (omega arith, omega arith);
+        stands =
+            let name = journal_name fingerprint None in
+            subst (λ (f : List ℕ). StandsFor name f []) (append-nil (header sha256 fingerprint)) (stands name [] (omega arith));
+      },
+      record { bounded = (omega arith, omega arith); whole = omega arith; short = short_self accepted skipping [] skips.none },
     );
     begins = All-nil (IsOf accepted start []);
     state = refl;
@@ -263,4 +259,4 @@ module _ {S : Type 0} (accepted : S → List ℕ → Option S) (skipping : ℕ �
   }
 
   pub durable : IsDurable accepted skipping fingerprint start
-  durable events published new run = run_keeps events (Stopped [] (header fingerprint)) [] published [] new first run
+  durable events published new run = run_keeps events (Stopped [] (header sha256 fingerprint)) [] published [] new first run

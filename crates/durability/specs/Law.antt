@@ -1,6 +1,8 @@
 -- The promise of a service with a journal, whatever happens (docs/SERVICE.md, "Journal").
-use Rattle.std.specs.Prelude.{◌≡◌, ◌⊎◌, ◌<◌, ◌^◌, ℕ, ◌+◌, List, [], ◌∷◌, All, Option, Some, IsSome}
+use Rattle.std.specs.Prelude.{◌≡◌, ◌⊎◌, ◌≤◌, ℕ, ◌+◌, List, [], ◌∷◌, length, All, Option, None, Some, IsSome}
 use mathlib.Core.List.{IsPrefix}
+use Rattle.sha2.specs.Sha256.{sha256}
+use Rattle.journal.specs.Name.{IsBounded, journal_name, skipped_of, written_of}
 use Rattle.journal.specs.Record.{header}
 use Rattle.journal.specs.Reading.{StandsFor}
 use Rattle.sharing.specs.Sharing.{after}
@@ -23,11 +25,12 @@ abbrev pub IsSublist : List (List ℕ) → List (List ℕ) → Type 0
 IsSublist xs [] = xs ≡ []
 IsSublist xs (y ∷ ys) = IsSublist xs ys ⊎ ((rest : List (List ℕ)) × (xs ≡ y ∷ rest) × IsSublist rest ys)
 
--- a journal has these batches, or fewer that lead to the same state
+-- a journal has these batches, or fewer that lead to the same state, among them all that its compaction wrote
 pub record IsJournalOf {S : Type 0} (accepted : S → List ℕ → Option S) (skipping : ℕ → S → S) (journal : Journal) (batches : List (List ℕ))
     : Type 0 where
-  pub bounded : journal.skipped < 2 ^ 64
-  pub short : IsShortOf accepted skipping journal.skipped journal.own batches
+  pub bounded : IsBounded journal.compaction
+  pub whole : written_of journal.compaction ≤ length journal.own
+  pub short : IsShortOf accepted skipping (skipped_of journal.compaction) journal.own batches
 
 -- the service has all of its batches: by the journal that it runs with, or by the file that is left
 abbrev pub HasBatches : {S : Type 0} → (S → List ℕ → Option S) → (ℕ → S → S) → List ℕ → Service → Type 0
@@ -57,7 +60,7 @@ pub record Skips {S : Type 0} (skipping : ℕ → S → S) : Type 0 where
 -- that holds after any events, from an empty journal on
 abbrev pub IsDurable : {S : Type 0} → (S → List ℕ → Option S) → (ℕ → S → S) → List ℕ → S → Type 0
 IsDurable accepted skipping fingerprint start = (events : List Event) (published : List (Published _)) (new : Service)
-    → IsRun accepted skipping fingerprint start (Stopped [] (header fingerprint)) events published new
+    → IsRun accepted skipping fingerprint start (Stopped [] (header sha256 fingerprint)) events published new
     → KeepsBatches accepted skipping fingerprint start new published (submitted events)
 
 -- no checkpoint comes
@@ -71,11 +74,11 @@ HasNoCheckpoint (Start ∷ events) = HasNoCheckpoint events
 
 -- the service runs with just its batches, or the file that is left stands for just these
 abbrev pub HasAll : List ℕ → Service → Type 0
-HasAll fingerprint (Running journal batches shown) = (journal.skipped ≡ 0) × (journal.own ≡ batches)
-HasAll fingerprint (Stopped batches file) = StandsFor fingerprint file batches
+HasAll fingerprint (Running journal batches shown) = (journal.compaction ≡ None) × (journal.own ≡ batches)
+HasAll fingerprint (Stopped batches file) = StandsFor (journal_name fingerprint None) file batches
 
 -- until the first checkpoint the journal has all batches
 abbrev pub IsWhole : {S : Type 0} → (S → List ℕ → Option S) → (ℕ → S → S) → List ℕ → S → Type 0
 IsWhole accepted skipping fingerprint start = (events : List Event) (published : List (Published _)) (new : Service) → HasNoCheckpoint events
-    → IsRun accepted skipping fingerprint start (Stopped [] (header fingerprint)) events published new
+    → IsRun accepted skipping fingerprint start (Stopped [] (header sha256 fingerprint)) events published new
     → HasAll fingerprint new

@@ -1,14 +1,16 @@
 -- A service over all its lives: its batches, its events, and what it publishes (docs/SERVICE.md, "Journal").
-use Rattle.std.specs.Prelude.{◌≡◌, ◌⊎◌, ◌<◌, ◌^◌, ℕ, ◌+◌, List, [], ◌∷◌, ◌++◌, Option, IsSome, IsSomeAnd}
+use Rattle.std.specs.Prelude.{◌≡◌, ◌⊎◌, ◌≤◌, ℕ, ◌+◌, List, [], ◌∷◌, ◌++◌, length, Option, IsSome, IsSomeAnd}
 use Rattle.sha2.specs.Sha256.{sha256}
-use Rattle.journal.specs.Record.{name_of, journal_of}
+use Rattle.journal.specs.Name.{IsBounded, journal_name, name_of, skipped_of, written_of}
+use Rattle.journal.specs.Record.{journal_of}
 use Rattle.journal.specs.Reading.{StandsFor}
+use Rattle.journal.specs.declared.name.Compaction.{Compaction}
 use Rattle.sharing.specs.Sharing.{after}
 use Rattle.sharing.specs.Shortened.{IsShortOf}
 
--- the journal of a service: its batches, and how many fewer they are than those that were accepted
+-- the journal of a service: its batches, and its last compaction, which says how many fewer they are than those that were accepted
 pub record Journal : Type 0 where
-  pub skipped : ℕ
+  pub compaction : Option Compaction
   pub own : List (List ℕ)
 
 -- it runs with a journal and all batches that were accepted, of which readers are shown the first; or it has stopped after these, and this file is
@@ -42,8 +44,8 @@ with_batch journal batch = record journal { own = journal.own ++ batch ∷ [] }
 
 -- a file stands for a journal
 pub record IsFileOf (fingerprint : List ℕ) (journal : Journal) (file : List ℕ) : Type 0 where
-  pub bounded : journal.skipped < 2 ^ 64
-  pub stands : StandsFor (name_of fingerprint journal.skipped) file journal.own
+  pub bounded : IsBounded journal.compaction
+  pub stands : StandsFor (journal_name fingerprint journal.compaction) file journal.own
 
 -- both files stand for the same journal
 abbrev pub AreAlike : List ℕ → List ℕ → List ℕ → Type 0
@@ -52,13 +54,14 @@ AreAlike fingerprint file other = (journal : Journal) × IsFileOf fingerprint jo
 module _ {S : Type 0} (accepted : S → List ℕ → Option S) (skipping : ℕ → S → S) (fingerprint : List ℕ) (start : S) where
   -- the state that a journal leads to, if each batch is accepted after those before it
   abbrev pub state_of : Journal → Option S
-  state_of journal = after accepted (skipping journal.skipped start) journal.own
+  state_of journal = after accepted (skipping (skipped_of journal.compaction) start) journal.own
 
-  -- a journal is shorter than another one, or has as many batches: it has some fewer that lead to the same state
+  -- a journal is shorter than another one, or has as many batches: it has some fewer that lead to the same state, among them all that its compaction wrote
   pub record IsShorter (journal other : Journal) : Type 0 where
-    pub bounded : journal.skipped < 2 ^ 64
+    pub bounded : IsBounded journal.compaction
+    pub whole : written_of journal.compaction ≤ length journal.own
     pub more : ℕ
-    pub counted : journal.skipped ≡ other.skipped + more
+    pub counted : skipped_of journal.compaction ≡ skipped_of other.compaction + more
     pub short : IsShortOf accepted skipping more journal.own other.own
 
   -- readers are shown the state that the journal leads to, as the one after all batches
@@ -113,7 +116,7 @@ module _ {S : Type 0} (accepted : S → List ℕ → Option S) (skipping : ℕ �
   IsStep (Running journal batches shown) Retry published new = ArePublished journal batches published new ⊎ ArePending journal batches shown published new
   IsStep (Running journal batches shown) Checkpoint published new = IsCheckpoint journal batches shown published new
   IsStep (Running journal batches shown) Crash published new =
-      HasStopped batches (journal_of sha256 (name_of fingerprint journal.skipped) journal.own) published new
+      HasStopped batches (journal_of sha256 (name_of fingerprint journal.compaction) journal.own) published new
   IsStep (Running journal batches shown) Start published new = ArePending journal batches shown published new
   IsStep (Stopped batches file) Start published new = IsStarted batches file published new
   IsStep (Stopped batches file) (Submit batch) published new = HasStopped batches file published new

@@ -47,5 +47,5 @@ module _ (digest : List ℕ → List ℕ) (name : List ℕ) where
   -- the journal with more batches
   pub journal_append : (m : ℕ) (batches more : List (List ℕ)) → m ≡ length batches + 1 → journal_of digest name (batches ++ more) ≡ journal_of digest name batches ++ records digest name m more
   journal_append m batches more is =
-      ap (λ (l : List ℕ). header name ++ l) (records_append 1 m batches more (omega arith))
-      ∙ sym (append_assoc (header name) (records digest name 1 batches) (records digest name m more))
+      ap (λ (l : List ℕ). header digest name ++ l) (records_append 1 m batches more (omega arith))
+      ∙ sym (append_assoc (header digest name) (records digest name 1 batches) (records digest name m more))

@@ -5,4 +5,5 @@ pub mod Readings
 pub mod Digests
 pub mod Growing
 pub mod Names
+pub mod Headers
 pub mod Standing

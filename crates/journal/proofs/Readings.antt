@@ -32,7 +32,7 @@ module _ (digest : List ℕ → List ℕ) (name : List ℕ) (is_digest : IsDiges
       one_reading 1 a b s t
       (λ has. reads_a.longest (subst (λ (k : ℕ). StartsWithNumber digest name k s) (omega arith) has))
       (λ has. reads_b.longest (subst (λ (k : ℕ). StartsWithNumber digest name k t) (omega arith) has))
-      (append_cancel_left (header name) _ _ (sym (append_assoc (header name) (records digest name 1 a) s) ∙ (sym reads_a.whole ∙ reads_b.whole) ∙ append_assoc (header name) (records digest name 1 b) t))
+      (append_cancel_left (header digest name) _ _ (sym (append_assoc (header digest name) (records digest name 1 a) s) ∙ (sym reads_a.whole ∙ reads_b.whole) ∙ append_assoc (header digest name) (records digest name 1 b) t))
 
   -- a journal and a torn end
   pub reads_torn : (batches : List (List ℕ)) (tail : List ℕ) → IsTorn digest name tail → Reads digest name (journal_of digest name batches ++ tail) batches tail
@@ -102,13 +102,13 @@ module _ (digest : List ℕ → List ℕ) (name : List ℕ) (is_digest : IsDiges
 
   pub begins : BeginsAnywhere digest name
   begins batches file missing same =
-      let found = begins_at 1 batches file missing (append_cancel_left (header name) _ _ same) in (
+      let found = begins_at 1 batches file missing (append_cancel_left (header digest name) _ _ same) in (
         found.whole,
         found.later,
         found.tail,
         found.parts,
         subst (λ (f : List ℕ). Reads digest name f found.whole found.tail)
-            (append_assoc (header name) (records digest name 1 found.whole) found.tail ∙ ap (λ (l : List ℕ). header name ++ l) (sym found.is))
+            (append_assoc (header digest name) (records digest name 1 found.whole) found.tail ∙ ap (λ (l : List ℕ). header digest name ++ l) (sym found.is))
             (reads_torn found.whole found.tail found.torn),
         found.torn,
       )

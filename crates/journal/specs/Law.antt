@@ -1,7 +1,11 @@
 -- The promises of the format, for each digest of 32 bytes (docs/SERVICE.md, "Journal").
-use Rattle.std.specs.Prelude.{◌≡◌, ◌≢◌, ℕ, ◌+◌, ◌<◌, ◌^◌, List, [], ◌∷◌, ◌++◌, length}
-use Rattle.journal.specs.Record.{name_of, header, sequence_bytes, record_of, records, journal_of}
-use Rattle.journal.specs.Reading.{ContainsRecord, Reads, IsTorn}
+use Rattle.std.specs.Prelude.{◌≡◌, ◌≢◌, ℕ, ◌+◌, ◌<◌, List, [], ◌∷◌, ◌++◌, length, Option}
+use Rattle.journal.specs.Name.{IsBounded, name_bytes, name_of, written_of}
+use Rattle.journal.specs.Record.{compacted_signature, header, sequence_bytes, record_of, records, journal_of}
+use Rattle.journal.specs.Reading.{ContainsRecord, Reads, IsTorn, StandsFor}
+use Rattle.journal.specs.declared.name.Compaction.{Compaction}
+use Rattle.journal.specs.declared.name.JournalName.{JournalName}
+use Rattle.sha2.specs.Sha256.{sha256}
 
 -- each digest has 32 bytes
 abbrev pub IsDigest : (List ℕ → List ℕ) → Type 0
@@ -26,9 +30,9 @@ module _ (digest : List ℕ → List ℕ) (name : List ℕ) where
   -- a journal that is cut after its header is read as the whole records that are left: the batches of these, and less than one more
   abbrev pub BeginsAnywhere : Type 0
   BeginsAnywhere = (batches : List (List ℕ)) (file missing : List ℕ)
-      → journal_of digest name batches ≡ header name ++ (file ++ missing)
+      → journal_of digest name batches ≡ header digest name ++ (file ++ missing)
       → (whole later : List (List ℕ)) × (tail : List ℕ) × (batches ≡ whole ++ later)
-      × Reads digest name (header name ++ file) whole tail × IsTorn digest name tail
+      × Reads digest name (header digest name ++ file) whole tail × IsTorn digest name tail
 
   -- damage to a record before the last is seen: if the bytes in place of it aren't read, a whole record follows them
   abbrev pub DamageIsSeen : Type 0
@@ -36,7 +40,26 @@ module _ (digest : List ℕ → List ℕ) (name : List ℕ) where
       → Reads digest name (journal_of digest name batches ++ (damage ++ records digest name (length batches + 2) (next ∷ later))) batches tail
       → ContainsRecord digest name tail
 
--- a file is the journal of one map at most, and one number of batches was left out of it
-abbrev pub HasOneName : Type 0
-HasOneName = (a b : List ℕ) (n m : ℕ) (s t : List ℕ) → length a ≡ 32 → length b ≡ 32 → n < 2 ^ 64 → m < 2 ^ 64
-    → header (name_of a n) ++ s ≡ header (name_of b m) ++ t → (a ≡ b) × (n ≡ m) × (s ≡ t)
+module _ (digest : List ℕ → List ℕ) where
+  -- a file is the journal of one map at most, and has one compaction, if any
+  abbrev pub HasOneName : Type 0
+  HasOneName = (a b : List ℕ) (c d : Option Compaction) (s t : List ℕ) → length a ≡ 32 → length b ≡ 32 → IsBounded c → IsBounded d
+      → header digest (name_of a c) ++ s ≡ header digest (name_of b d) ++ t → (a ≡ b) × (c ≡ d) × (s ≡ t)
+
+  -- the header of a compacted journal whose name is damaged is that of none, unless what it has then and its name are two messages of one digest
+  abbrev pub DamagedNameIsSeen : Type 0
+  DamagedNameIsSeen = (name damaged fingerprint : List ℕ) (compaction : Option Compaction) (s t : List ℕ)
+      → length name ≡ 48 → length damaged ≡ 48 → damaged ≢ name → length fingerprint ≡ 32
+      → compacted_signature ++ (damaged ++ (digest name ++ s)) ≡ header digest (name_of fingerprint compaction) ++ t
+      → digest damaged ≡ digest name
+
+  -- and one whose digest is damaged is that of none
+  abbrev pub DamagedDigestIsSeen : Type 0
+  DamagedDigestIsSeen = (name damaged fingerprint : List ℕ) (compaction : Option Compaction) (s t : List ℕ)
+      → length name ≡ 48 → length damaged ≡ 32 → damaged ≢ digest name → length fingerprint ≡ 32
+      → compacted_signature ++ (name ++ (damaged ++ s)) ≡ header digest (name_of fingerprint compaction) ++ t → ⊥
+
+-- a file that is read as fewer batches than were written with its header stands for none
+abbrev pub PartIsRefused : Type 0
+PartIsRefused = (name : JournalName) (file : List ℕ) (batches others : List (List ℕ)) (tail : List ℕ)
+    → Reads sha256 (name_bytes name) file batches tail → length batches < written_of name.compaction → StandsFor name file others → ⊥

@@ -4,4 +4,5 @@ pub mod Reading
 pub mod Law
 pub mod Fingerprint
 pub mod Name
+pub mod Header
 pub mod Texts

@@ -1,9 +1,11 @@
 -- The reading of a file, whatever became of its end (docs/SERVICE.md, "Journal").
-use Rattle.std.specs.Prelude.{◌≡◌, ℕ, ◌+◌, List, ◌++◌, length}
+use Rattle.std.specs.Prelude.{◌≡◌, ℕ, ◌+◌, ◌≤◌, List, ◌++◌, length}
 use mathlib.Core.List.{IsPrefix}
 use Rattle.sha2.specs.Sha256.{sha256}
 use Rattle.journal.specs.Slip.{stuffed}
+use Rattle.journal.specs.Name.{name_bytes, written_of}
 use Rattle.journal.specs.Record.{sequence_bytes, body, record_of, journal_of}
+use Rattle.journal.specs.declared.name.JournalName.{JournalName}
 
 module _ (digest : List ℕ → List ℕ) (name : List ℕ) where
   -- some bytes begin with the whole record of this number, whatever its batch
@@ -31,14 +33,17 @@ module _ (digest : List ℕ → List ℕ) (name : List ℕ) where
   abbrev pub IsTorn : List ℕ → Type 0
   IsTorn tail = ContainsRecord tail → ⊥
 
--- a file stands for these batches: it is their journal, perhaps with a torn tail
-abbrev pub StandsFor : List ℕ → List ℕ → List (List ℕ) → Type 0
-StandsFor name file batches = (tail : List ℕ) × Reads sha256 name file batches tail × IsTorn sha256 name tail
+-- a file stands for these batches: it is their journal, perhaps with a torn tail, and has at least those that were written with its header
+pub record StandsFor (name : JournalName) (file : List ℕ) (batches : List (List ℕ)) : Type 0 where
+  pub tail : List ℕ
+  pub reads : Reads sha256 (name_bytes name) file batches tail
+  pub torn : IsTorn sha256 (name_bytes name) tail
+  pub whole : written_of name.compaction ≤ length batches
 
 -- it stands for these batches and the first of some more: for all of these, for some, or for none
-abbrev pub StandsForFirst : List ℕ → List (List ℕ) → List (List ℕ) → List ℕ → Type 0
+abbrev pub StandsForFirst : JournalName → List (List ℕ) → List (List ℕ) → List ℕ → Type 0
 StandsForFirst name batches more file = (first : List (List ℕ)) × IsPrefix first more × StandsFor name file (batches ++ first)
 
 -- both stand for the same batches
-abbrev pub StandAlike : List ℕ → List ℕ → List ℕ → Type 0
+abbrev pub StandAlike : JournalName → List ℕ → List ℕ → Type 0
 StandAlike name file other = (batches : List (List ℕ)) × StandsFor name file batches × StandsFor name other batches

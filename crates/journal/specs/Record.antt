@@ -9,25 +9,22 @@ signature = codes "KESMOCH JOURNAL 1\n"
 
 -- the first bytes of one that was
 unfoldable pub compacted_signature : List ℕ
-compacted_signature = codes "KESMOCH JOURNAL 2\n"
+compacted_signature = codes "KESMOCH JOURNAL 3\n"
+
+-- the first bytes of one that an earlier program compacted, whose header has no digest
+unfoldable pub earlier_signature : List ℕ
+earlier_signature = codes "KESMOCH JOURNAL 2\n"
 
 -- a number in 8 bytes, the highest first
 unfoldable pub sequence_bytes : ℕ → List ℕ
 sequence_bytes number = to_be_bytes w64 number
 
--- the name of a journal: the fingerprint of the map, and behind it how many batches fewer it has than those that it stands for, if any
-abbrev pub name_of : List ℕ → ℕ → List ℕ
-name_of fingerprint skipped = if skipped == 0 then fingerprint else fingerprint ++ sequence_bytes skipped
-
--- a name that is longer than a fingerprint is that of a journal that was compacted
-abbrev pub signature_of : List ℕ → List ℕ
-signature_of name = if length name == 32 then signature else compacted_signature
-
--- the header: the signature, and the name of the journal
-abbrev pub header : List ℕ → List ℕ
-header name = signature_of name ++ name
-
 module _ (digest : List ℕ → List ℕ) (name : List ℕ) where
+  -- the header: a signature and the name of the journal. A name that is longer than a fingerprint is that of a journal that was compacted; its digest
+  -- follows it
+  abbrev pub header : List ℕ
+  header = if length name == 32 then signature ++ name else compacted_signature ++ (name ++ digest name)
+
   -- the contents of a record: the 8 bytes of its number, the batch, and the digest of both after the name of the journal
   abbrev pub body : List ℕ → List ℕ → List ℕ
   body sequence batch = sequence ++ (batch ++ digest (name ++ (sequence ++ batch)))
@@ -43,4 +40,4 @@ module _ (digest : List ℕ → List ℕ) (name : List ℕ) where
 
   -- the journal of some batches, which have the numbers from 1
   abbrev pub journal_of : List (List ℕ) → List ℕ
-  journal_of batches = header name ++ records 1 batches
+  journal_of batches = header ++ records 1 batches

@@ -17,7 +17,7 @@ use test_tables::{TableFault, check_rows};
 
 const JOURNAL: JournalName = JournalName {
     fingerprint: [7; 32],
-    skipped: 0,
+    compaction: None,
 };
 
 // Batches that are accepted, as far as they are, and what keeps them.

@@ -1,6 +1,6 @@
 // Journals that are compacted where they are due as batches are kept. Lengths were worked by another program, from the rules of the format.
 
-use crate::starts::{keep, keep_compacted, name};
+use crate::starts::{PLAIN, keep, keep_compacted};
 use crate::tape::Tape;
 use crate::written::{batches_of, journal_of};
 use journal::push_header;
@@ -24,7 +24,7 @@ APPEND 16 p~x,y,n~0.5,0.5,g~";
 // The journal of no batches.
 fn empty(alloc: Global) -> Result<Tape, AllocError> {
     let mut bytes = Vec::new(alloc);
-    push_header(&mut bytes, &name(0))?;
+    push_header(&mut bytes, &PLAIN)?;
     Ok(Tape::new(alloc, bytes, 9_000))
 }
 
@@ -40,10 +40,10 @@ fn a_journal_is_compacted_where_it_is_due(rt: HostRuntime) -> Result<(), Fail> {
     let alloc = rt.alloc();
     // It has 200 bytes with the third.
     let notes = notes_of(alloc, 200, CLEARS)?;
-    let expected = " 1+0<200 2+0<200 1+2<216 2+2<216 3+2<216 1+5<216 2+5<216";
+    let expected = " 1+0<200 2+0<200 1+2<296 2+2<296 3+2<296 1+5<296 2+5<296";
     assert_eq!(rt; notes.as_str(), expected);
     let notes = notes_of(alloc, 201, CLEARS)?;
-    let expected = " 1+0<201 2+0<201 3+0<201 1+3<216 2+3<216 3+3<216 1+6<216";
+    let expected = " 1+0<201 2+0<201 3+0<201 1+3<298 2+3<298 3+3<298 1+6<296";
     assert_eq!(rt; notes.as_str(), expected);
     Ok(())
 }
@@ -51,9 +51,9 @@ fn a_journal_is_compacted_where_it_is_due(rt: HostRuntime) -> Result<(), Fail> {
 #[test]
 fn one_of_which_little_is_undone_is_due_at_twice_its_length(rt: HostRuntime) -> Result<(), Fail> {
     let alloc = rt.alloc();
-    // It has 191 bytes with the second, and 402 with the fifth.
+    // It has 191 bytes with the second, 238 once it is compacted, and 518 with the sixth.
     let notes = notes_of(alloc, 150, APPENDS)?;
-    let expected = " 1+0<150 2+0<382 3+0<382 4+0<382 5+0<804 6+0<804 7+0<804";
+    let expected = " 1+0<150 2+0<476 3+0<476 4+0<476 5+0<476 6+0<1036 7+0<1036";
     assert_eq!(rt; notes.as_str(), expected);
     Ok(())
 }
@@ -69,7 +69,7 @@ fn without_a_checkpoint_a_journal_grows(rt: HostRuntime) -> Result<(), Fail> {
 #[test]
 fn the_least_length_stays(rt: HostRuntime) -> Result<(), Fail> {
     let alloc = rt.alloc();
-    let tape = Tape::new(alloc, journal_of(alloc, 0, CLEARS)?, 9_000);
+    let tape = Tape::new(alloc, journal_of(alloc, &PLAIN, CLEARS)?, 9_000);
     let checkpoint = Checkpoint {
         least: 400,
         due: 450,

@@ -1,7 +1,7 @@
 // Journals that are compacted, worked by hand.
 
 use crate::maps::shown;
-use crate::starts::{Opened, found, keep, start};
+use crate::starts::{Opened, PLAIN, compacted, found, keep, start};
 use crate::tape::Tape;
 use crate::written::{batches_of, journal_of};
 use std::alloc::{AllocError, Global};
@@ -19,8 +19,8 @@ APPEND 16 q~x,y,n~0.5,0.5,f~ON p~
 OFF q~
 ";
 
-// What is left of them: four batches.
-const LEFT: &str = "\
+/// What is left of them: four batches.
+pub const LEFT: &str = "\
 CLEAR p~APPEND 16 p~x,y,n~0.5,0.5,c~
 CLEAR q~
 APPEND 16 q~x,y,n~0.5,0.5,f~ON p~
@@ -45,6 +45,17 @@ APPEND 16 p~x,y,n~0.5,0.5,a~
 CLEAR q~OFF q~
 APPEND 16 q~x,y,n~0.5,0.5,b~APPEND 16 p~x,y,n~0.5,0.5,c~";
 
+// Batches of which none is left out, but commands of each: the ON of p undoes its OFF, the CLEAR of p the value a, and the OFF of q its ON.
+const WITHIN: &str = "\
+OFF p~CLEAR q~ON p~
+APPEND 16 p~x,y,n~0.5,0.5,a~CLEAR p~APPEND 16 p~x,y,n~0.5,0.5,b~
+ON q~OFF q~";
+
+const LEFT_WITHIN: &str = "\
+CLEAR q~ON p~
+CLEAR p~APPEND 16 p~x,y,n~0.5,0.5,b~
+OFF q~";
+
 // The journal on a tape after it was compacted, and whether it was.
 fn compact(alloc: Global, bytes: Vec<u8>) -> Result<Option<(Tape, bool)>, AllocError> {
     let Some(Opened { mut journal, .. }) = start(alloc, Tape::new(alloc, bytes, 1_000))? else {
@@ -65,7 +76,8 @@ fn is_compacted_to(alloc: Global, bytes: Vec<u8>, left: &[u8]) -> Result<bool, A
 #[test]
 fn undone_commands_are_left_out(rt: HostRuntime) -> Result<(), Fail> {
     let alloc = rt.alloc();
-    let (all, left) = (journal_of(alloc, 0, BATCHES)?, journal_of(alloc, 4, LEFT)?);
+    let all = journal_of(alloc, &PLAIN, BATCHES)?;
+    let left = journal_of(alloc, &compacted(4, 4), LEFT)?;
     assert_eq!(rt;
         found(alloc, &all)?.as_str(),
         "8 there, 0 left out: p 'c', q off, sequence 8"
@@ -74,9 +86,7 @@ fn undone_commands_are_left_out(rt: HostRuntime) -> Result<(), Fail> {
         found(alloc, &left)?.as_str(),
         "4 there, 4 left out: p 'c', q off, sequence 8"
     );
-    assert!(rt; left.starts_with(b"KESMOCH JOURNAL 2\n"));
-    let skipped = left.get(50..58).unwrap_or(&[]);
-    assert!(rt; skipped == [0, 0, 0, 0, 0, 0, 0, 4].as_slice());
+    assert!(rt; left.starts_with(b"KESMOCH JOURNAL 3\n"));
     assert!(rt; is_compacted_to(alloc, all, &left)?);
     Ok(())
 }
@@ -84,7 +94,7 @@ fn undone_commands_are_left_out(rt: HostRuntime) -> Result<(), Fail> {
 #[test]
 fn batches_follow_and_are_compacted_again(rt: HostRuntime) -> Result<(), Fail> {
     let alloc = rt.alloc();
-    let tape = Tape::new(alloc, journal_of(alloc, 4, LEFT)?, 1_000);
+    let tape = Tape::new(alloc, journal_of(alloc, &compacted(4, 4), LEFT)?, 1_000);
     let more = batches_of(alloc, MORE)?;
     let kept = keep(alloc, tape, &more)?.ok_or(AllocError)?;
     assert_eq!(rt; kept.notes.as_str(), " 5+4 6+4");
@@ -93,7 +103,7 @@ fn batches_follow_and_are_compacted_again(rt: HostRuntime) -> Result<(), Fail> {
         found(alloc, &all)?.as_str(),
         "6 there, 4 left out: p 'c' 'h', q 'f', sequence 10"
     );
-    let left = journal_of(alloc, 5, LEFT_AGAIN)?;
+    let left = journal_of(alloc, &compacted(5, 5), LEFT_AGAIN)?;
     assert!(rt; is_compacted_to(alloc, all, &left)?);
     assert_eq!(rt;
         found(alloc, &left)?.as_str(),
@@ -104,14 +114,27 @@ fn batches_follow_and_are_compacted_again(rt: HostRuntime) -> Result<(), Fail> {
 }
 
 #[test]
-fn a_journal_of_which_nothing_is_left_out_stays_of_version_1(rt: HostRuntime) -> Result<(), Fail> {
+fn a_journal_of_which_nothing_is_left_out_gets_the_new_header(rt: HostRuntime) -> Result<(), Fail> {
     let alloc = rt.alloc();
-    let all = journal_of(alloc, 0, NONE_UNDONE)?;
-    assert!(rt; all.starts_with(b"KESMOCH JOURNAL 1\n"));
-    assert!(rt; is_compacted_to(alloc, all.clone()?, &all)?);
+    let all = journal_of(alloc, &PLAIN, NONE_UNDONE)?;
+    let left = journal_of(alloc, &compacted(0, 3), NONE_UNDONE)?;
+    assert!(rt; is_compacted_to(alloc, all, &left)?);
     assert_eq!(rt;
-        found(alloc, &all)?.as_str(),
+        found(alloc, &left)?.as_str(),
         "3 there, 0 left out: p 'a' 'c', q off, sequence 3"
+    );
+    Ok(())
+}
+
+#[test]
+fn commands_within_batches_are_left_out(rt: HostRuntime) -> Result<(), Fail> {
+    let alloc = rt.alloc();
+    let all = journal_of(alloc, &PLAIN, WITHIN)?;
+    let left = journal_of(alloc, &compacted(0, 3), LEFT_WITHIN)?;
+    assert!(rt; is_compacted_to(alloc, all, &left)?);
+    assert_eq!(rt;
+        found(alloc, &left)?.as_str(),
+        "3 there, 0 left out: p 'b', q off, sequence 3"
     );
     Ok(())
 }
@@ -119,9 +142,11 @@ fn a_journal_of_which_nothing_is_left_out_stays_of_version_1(rt: HostRuntime) ->
 #[test]
 fn empty_batches_are_counted_alone(rt: HostRuntime) -> Result<(), Fail> {
     let alloc = rt.alloc();
-    let (tape, is_compacted) = compact(alloc, journal_of(alloc, 0, "\n\n")?)?.ok_or(AllocError)?;
+    let (tape, is_compacted) = compact(alloc, journal_of(alloc, &PLAIN, "\n\n")?)?.ok_or(
+        AllocError,
+    )?;
     assert!(rt; is_compacted);
-    assert_eq!(rt; tape.bytes().len(), 58);
+    assert_eq!(rt; tape.bytes().len(), 98);
     assert_eq!(rt;
         found(alloc, tape.bytes())?.as_str(),
         "0 there, 3 left out: p, q, sequence 3"
@@ -132,16 +157,16 @@ fn empty_batches_are_counted_alone(rt: HostRuntime) -> Result<(), Fail> {
 #[test]
 fn the_journal_knows_its_name_and_length(rt: HostRuntime) -> Result<(), Fail> {
     let alloc = rt.alloc();
-    let tape = Tape::new(alloc, journal_of(alloc, 0, BATCHES)?, 1_000);
+    let tape = Tape::new(alloc, journal_of(alloc, &PLAIN, BATCHES)?, 1_000);
     let Opened {
         mut journal,
         machine,
     } = start(alloc, tape)?.ok_or(AllocError)?;
     assert_eq!(rt; journal.length, 599);
     assert!(rt; matches!(journal.compact(), Ok(true)));
-    assert_eq!(rt; journal.name.skipped, 4);
+    assert!(rt; journal.name == compacted(4, 4));
     assert_eq!(rt; journal.count, 4);
-    assert_eq!(rt; journal.length, 310);
+    assert_eq!(rt; journal.length, 350);
     assert_eq!(rt;
         shown(alloc, &machine)?.as_str(),
         "p 'c', q off, sequence 8"

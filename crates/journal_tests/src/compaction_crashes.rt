@@ -1,7 +1,7 @@
 // A compaction on a tape that stops, batches after it, and the fewest and the most bytes that a crash leaves at each moment.
 
 use crate::compacted::{BATCHES, MORE};
-use crate::starts::{Opened, keep, shown_after, start};
+use crate::starts::{Opened, PLAIN, keep, shown_after, start};
 use crate::tape::Tape;
 use crate::written::{batches_of, journal_of};
 use std::alloc::{AllocError, Global};
@@ -16,7 +16,7 @@ const SHOWN: [&str; 3] = [
 ];
 
 // The bytes of what is left, and those of it and of each batch that follows.
-const LENGTHS: [usize; 3] = [310, 357, 427];
+const LENGTHS: [usize; 3] = [350, 397, 467];
 
 // Whether a start on some bytes shows the one or the other.
 fn shows_one(alloc: Global, bytes: &[u8], shown: &[&str]) -> Result<bool, AllocError> {
@@ -57,7 +57,7 @@ fn each_showed(
 
 // Whether the tape stops within a compaction or before its end and each crash leaves the batches, where it has so much room.
 fn outlive_a_compaction(alloc: Global, room: usize) -> Result<Option<Tape>, AllocError> {
-    let tape = Tape::new(alloc, journal_of(alloc, 0, BATCHES)?, room);
+    let tape = Tape::new(alloc, journal_of(alloc, &PLAIN, BATCHES)?, room);
     let Some(Opened { mut journal, .. }) = start(alloc, tape)? else {
         return Ok(None);
     };

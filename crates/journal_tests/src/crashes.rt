@@ -11,7 +11,7 @@ use std::test::Fail;
 
 const JOURNAL: JournalName = JournalName {
     fingerprint: [7; 32],
-    skipped: 0,
+    compaction: None,
 };
 
 // The layer's name is U+06DC, whose first byte is an ESC.

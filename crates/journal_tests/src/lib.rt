@@ -33,3 +33,5 @@ mod short_reads;
 mod starts;
 #[cfg(test)]
 mod written;
+#[cfg(test)]
+mod written_parts;

@@ -9,7 +9,7 @@ use std::test::Fail;
 
 const JOURNAL: JournalName = JournalName {
     fingerprint: [7; 32],
-    skipped: 0,
+    compaction: None,
 };
 
 // The bytes that are read at a time.

@@ -12,7 +12,7 @@ pub fn recorded_batches(
 ) -> Result<Vec<Vec<u8>>, AllocError> {
     let mut batches = Vec::new(alloc);
     let mut rest = match after_header(&name.fingerprint, bytes) {
-        Ok((skipped, rest)) if skipped == name.skipped => rest,
+        Ok((found, rest)) if found == *name => rest,
         _ => return Ok(batches),
     };
     for number in 1..=10 {

@@ -1,13 +1,14 @@
 //! Starts on a log, as those of a service, and what is kept after them.
 
-ghost use Rattle.std.specs.Prelude.{◌≡◌, ◌<◌, ◌^◌, ℕ, List, IfOk, IfSome};
+ghost use Rattle.std.specs.Prelude.{ℕ, List, IfOk, IfSome};
+ghost use Rattle.journal.specs.Name.{IsBounded};
 ghost use Rattle.journalfile.specs.Settled.{IsSettled};
 
 use crate::maps::{shown, two_layers};
 use crate::tape::Tape;
-use journal::JournalName;
+use journal::{Compaction, JournalName};
 use journalfile::{
-    Checkpoint, CompactedJournal, Journal, Keeps, Log, Recovered, read_skipped, recover,
+    Checkpoint, CompactedJournal, Journal, Keeps, Log, Recovered, read_name, recover,
 };
 use mapmachine::Machine;
 use std::alloc::{AllocError, Global};
@@ -16,14 +17,17 @@ use std::slice::from_ref;
 /// The fingerprint of the map.
 pub const FINGERPRINT: [u8; 32] = [7; 32];
 
-/// The name of the map's journal, of which so many batches were left out.
-pub fn name(skipped: u64) -> JournalName
-    ensures skipped { result.skipped ≡ skipped }
-    ensures bounded { skipped < 2 ^ 64 }
-{
+/// The name of the map's journal that was never compacted.
+pub const PLAIN: JournalName = JournalName {
+    fingerprint: FINGERPRINT,
+    compaction: None,
+};
+
+/// The name of the map's journal of which so many batches were left out, and so many written with its header.
+pub fn compacted(skipped: u64, written: u64) -> JournalName {
     JournalName {
         fingerprint: FINGERPRINT,
-        skipped,
+        compaction: Some(Compaction { skipped, written }),
     }
 }
 
@@ -38,14 +42,13 @@ pub struct Opened<L> {
 fn open<L: Log + Drop>(alloc: Global, log: L) -> Result<Option<Opened<L>>, AllocError>
     ensures settled { IfOk result (λ found. IfSome found (λ opened. (kept : List (List ℕ))
         × (L.reliable → IsSettled L.content L.may_leave opened.journal kept))) }
-    ensures bounded { IfOk result (λ found. IfSome found (λ opened. opened.journal.name.skipped < 2 ^ 64)) }
+    ensures bounded { IfOk result (λ found. IfSome found (λ opened. IsBounded opened.journal.name.compaction)) }
 {
     let mut log = log;
-    let Ok(skipped) = read_skipped(alloc, &FINGERPRINT, &mut log) else {
+    let Ok(name) = read_name(alloc, &FINGERPRINT, &mut log) else {
         return Ok(None);
     };
-    let mut machine = two_layers(alloc, skipped)?;
-    let name = name(skipped);
+    let mut machine = two_layers(alloc, name.skipped())?;
     let Ok(Recovered { count, length, .. }) = recover(alloc, &name, &mut log, &mut machine) else {
         return Ok(None);
     };
@@ -69,7 +72,7 @@ fn start_on(alloc: Global, bytes: &[u8]) -> Result<(String, String), AllocError>
     let tape = Tape::new(alloc, bytes.to_vec(alloc)?, 0);
     match start(alloc, tape)? {
         Some(Opened { journal, machine }) => {
-            let (count, skipped) = (journal.count, journal.name.skipped);
+            let (count, skipped) = (journal.count, journal.name.skipped());
             let counts = format!(in alloc; "{count} there, {skipped} left out")?;
             Ok((counts, shown(alloc, &machine)?))
         }
@@ -106,7 +109,7 @@ trait Noted: Keeps {
 
 impl Noted for Journal<Tape> {
     fn note(&self, alloc: Global) -> Result<String, AllocError> {
-        format!(in alloc; " {}+{}", self.count, self.name.skipped)
+        format!(in alloc; " {}+{}", self.count, self.name.skipped())
     }
 }
 

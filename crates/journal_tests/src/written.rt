@@ -1,7 +1,6 @@
 //! Batches and journals as texts.
 
-use crate::starts::name;
-use journal::{push_header, push_record};
+use journal::{JournalName, push_header, push_record};
 use std::alloc::{AllocError, Global};
 
 /// The batches of a text, one a line. An LF within one is written `~`.
@@ -14,12 +13,12 @@ pub fn batches_of(alloc: Global, text: &str) -> Result<Vec<Vec<u8>>, AllocError>
     Ok(batches)
 }
 
-/// The journal of the batches of a text, with so many left out.
-pub fn journal_of(alloc: Global, skipped: u64, text: &str) -> Result<Vec<u8>, AllocError> {
+/// The journal of this name and of the batches of a text.
+pub fn journal_of(alloc: Global, name: &JournalName, text: &str) -> Result<Vec<u8>, AllocError> {
     let mut bytes = Vec::new(alloc);
-    push_header(&mut bytes, &name(skipped))?;
+    push_header(&mut bytes, name)?;
     for (at, batch) in batches_of(alloc, text)?.iter().enumerate() {
-        push_record(&mut bytes, &name(skipped), at as u64 + 1, batch.as_slice())?;
+        push_record(&mut bytes, name, at as u64 + 1, batch.as_slice())?;
     }
     Ok(bytes)
 }

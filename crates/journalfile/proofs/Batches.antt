@@ -113,8 +113,8 @@ written_one written (b ∷ piece) some = refl
 pub journal_push : (name : List ℕ) (batches : List (List ℕ)) (batch : List ℕ) (count : ℕ) → count ≡ length batches
     → journal_of sha256 name (batches ++ batch ∷ []) ≡ journal_of sha256 name batches ++ record_of sha256 name (sequence_bytes (count + 1)) batch
 journal_push name batches batch count counts =
-    ap (λ (l : List ℕ). header name ++ l) (records_push sha256 name 1 (count + 1) batches batch (omega (arith, counts)))
-    ∙ sym (append_assoc (header name) (records sha256 name 1 batches) (record_of sha256 name (sequence_bytes (count + 1)) batch))
+    ap (λ (l : List ℕ). header sha256 name ++ l) (records_push sha256 name 1 (count + 1) batches batch (omega (arith, counts)))
+    ∙ sym (append_assoc (header sha256 name) (records sha256 name 1 batches) (record_of sha256 name (sequence_bytes (count + 1)) batch))
 
 -- before the first batch
 pub left_start : (file : List ℕ) (all : List (List ℕ)) (reader : Reader) → HasRead file all [] all reader → reader.commands ≡ 0 → HasLeft file all [] reader

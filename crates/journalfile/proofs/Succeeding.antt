@@ -1,5 +1,5 @@
 -- A journal and its successor.
-use Rattle.std.proofs.Common.{◌≡◌, inl, inr, ℕ, ◌+◌, ◌<◌, ◌^◌, Bool, true, false, List, ◌++◌, sym, ◌∙◌, ap, subst}
+use Rattle.std.proofs.Common.{◌≡◌, inl, inr, ℕ, ◌+◌, Bool, true, false, List, ◌++◌, refl, sym, ◌∙◌, subst}
 use mathlib.Core.List.{IsPrefix}
 use Rattle.batches.specs.Batch.{accepted}
 use Rattle.compaction.specs.Compacted.{compacted, skipping}
@@ -7,12 +7,11 @@ use Rattle.compaction.proofs.Counting.{skipping-more}
 use Rattle.compaction.proofs.Leading.{leads_to_the_same}
 use Rattle.sharing.specs.Shortened.{IsShortOf}
 use Rattle.sharing.proofs.Shortened.{short_again, short_more}
-use Rattle.journal.specs.Name.{name_bytes}
+use Rattle.journal.specs.Name.{IsBounded, skipped_of}
 use Rattle.journal.specs.declared.name.JournalName.{JournalName}
-use Rattle.journal.specs.Record.{name_of}
 use Rattle.journal.specs.Reading.{StandsFor, StandsForFirst}
 use Rattle.journal.proofs.Standing.{stands}
-use Rattle.journalfile.specs.Compacting.{HasCompacted, IsCompacted, StandsForLeft, left_out}
+use Rattle.journalfile.specs.Compacting.{HasCompacted, IsCompacted, StandsForLeft, compacted_name, left_out}
 use Rattle.journalfile.specs.Keeping.{FileHas, JournalHas, settled_stands}
 use Rattle.journalfile.specs.Settled.{IsSettled}
 use Rattle.journalfile.specs.declared.writing.Journal.{Journal}
@@ -21,20 +20,12 @@ use Rattle.journalfile.specs.declared.writing.Journal.{Journal}
 pub shorter : (skipped : ℕ) (own batches : List (List ℕ)) → IsShortOf accepted skipping skipped own batches → IsShortOf accepted skipping (skipped + left_out own) (compacted own) batches
 shorter skipped own batches short = short_again accepted skipping skipped (left_out own) (compacted own) own batches (λ s. skipping-more skipped (left_out own) s) short (leads_to_the_same own)
 
--- the same name of both
-same_name : (one other : JournalName) (more : ℕ) → other.fingerprint ≡ one.fingerprint → other.skipped ≡ one.skipped + more → name_bytes other ≡ name_of one.fingerprint (one.skipped + more)
-same_name one other more of_map skips = ap (λ (l : List ℕ). name_of l other.skipped) of_map ∙ ap (λ (n : ℕ). name_of one.fingerprint n) skips
-
 module _ {L : Type 0} (content : L → List ℕ) (may_leave : L → List ℕ → Type 0) where
   -- the bytes of the successor stand for what is left
   pub succeeded : (old new : Journal L) (own : List (List ℕ)) → IsCompacted content may_leave old.name own new → (file : List ℕ) → file ≡ content new.log → StandsForLeft old.name own file
   succeeded old new own is file same =
-      let name = same_name old.name new.name (left_out own) is.of_map is.skips in
-      inr (
-        subst (λ (n : ℕ). n < 2 ^ 64) is.skips is.bounded,
-        subst (λ (l : List ℕ). StandsFor l file (compacted own)) name
-            (subst (λ (l : List ℕ). StandsFor (name_bytes new.name) l (compacted own)) (sym (same ∙ is.settled.file)) (stands (name_bytes new.name) (compacted own))),
-      )
+      let here = subst (λ (l : List ℕ). StandsFor new.name l (compacted own)) (sym (same ∙ is.settled.file)) (stands new.name (compacted own) is.settled.enough) in
+      inr (subst (λ (n : JournalName). IsBounded n.compaction) is.named is.bounded, subst (λ (n : JournalName). StandsFor n file (compacted own)) is.named here)
 
   -- those of the journal before it, too
   pub unreplaced : (old : Journal L) (own : List (List ℕ)) → IsSettled content may_leave old own → (file : List ℕ) → may_leave old.log file → StandsForLeft old.name own file
@@ -42,16 +33,22 @@ module _ {L : Type 0} (content : L → List ℕ) (may_leave : L → List ℕ →
 
   -- both have the batches that the journal had
   pub left_has : (old : Journal L) (batches : List (List ℕ)) → (has : JournalHas content may_leave old batches) → (file : List ℕ) → StandsForLeft old.name has.own file → FileHas old.name.fingerprint file batches
-  left_has old batches has file (inl here) = record { skipped = old.name.skipped; own = has.own; stands = here; short = has.short; bounded = has.bounded }
-  left_has old batches has file (inr (bounded, there)) =
-      record { skipped = old.name.skipped + left_out has.own; own = compacted has.own; stands = there; short = shorter old.name.skipped has.own batches has.short; bounded = bounded }
+  left_has old batches has file (inl here) = record { name = old.name; of_map = refl; own = has.own; stands = here; short = has.short; bounded = has.bounded }
+  left_has old batches has file (inr (bounded, there)) = record {
+    name = compacted_name old.name has.own;
+    of_map = refl;
+    own = compacted has.own;
+    stands = there;
+    short = shorter (skipped_of old.name.compaction) has.own batches has.short;
+    bounded = bounded;
+  }
 
   -- the successor has them
   pub compacted_has : (old new : Journal L) (batches : List (List ℕ)) → (has : JournalHas content may_leave old batches) → IsCompacted content may_leave old.name has.own new → JournalHas content may_leave new batches
   compacted_has old new batches has is = record {
     own = compacted has.own;
     settled = is.settled;
-    short = subst (λ (n : ℕ). IsShortOf accepted skipping n (compacted has.own) batches) (sym is.skips) (shorter old.name.skipped has.own batches has.short);
+    short = subst (λ (n : JournalName). IsShortOf accepted skipping (skipped_of n.compaction) (compacted has.own) batches) (sym is.named) (shorter (skipped_of old.name.compaction) has.own batches has.short);
     bounded = is.bounded;
   }
 
@@ -60,8 +57,8 @@ module _ {L : Type 0} (content : L → List ℕ) (may_leave : L → List ℕ →
   unchanged_has old new batches has settled named = record {
     own = has.own;
     settled = settled;
-    short = subst (λ (n : JournalName). IsShortOf accepted skipping n.skipped has.own batches) (sym named) has.short;
-    bounded = subst (λ (n : JournalName). n.skipped < 2 ^ 64) (sym named) has.bounded;
+    short = subst (λ (n : JournalName). IsShortOf accepted skipping (skipped_of n.compaction) has.own batches) (sym named) has.short;
+    bounded = subst (λ (n : JournalName). IsBounded n.compaction) (sym named) has.bounded;
   }
 
   -- more batches follow
@@ -70,21 +67,22 @@ module _ {L : Type 0} (content : L → List ℕ) (may_leave : L → List ℕ →
   more_has old new batches more has settled named = record {
     own = has.own ++ more;
     settled = settled;
-    short = subst (λ (n : JournalName). IsShortOf accepted skipping n.skipped (has.own ++ more) (batches ++ more)) (sym named) (short_more accepted skipping old.name.skipped has.own batches more has.short);
-    bounded = subst (λ (n : JournalName). n.skipped < 2 ^ 64) (sym named) has.bounded;
+    short = subst (λ (n : JournalName). IsShortOf accepted skipping (skipped_of n.compaction) (has.own ++ more) (batches ++ more)) (sym named) (short_more accepted skipping (skipped_of old.name.compaction) has.own batches more has.short);
+    bounded = subst (λ (n : JournalName). IsBounded n.compaction) (sym named) has.bounded;
   }
 
   -- a file that stands for the first of them has these
-  pub first_has : (old : Journal L) (batches more : List (List ℕ)) → (has : JournalHas content may_leave old batches) → (file : List ℕ) → StandsForFirst (name_bytes old.name) has.own more file
+  pub first_has : (old : Journal L) (batches more : List (List ℕ)) → (has : JournalHas content may_leave old batches) → (file : List ℕ) → StandsForFirst old.name has.own more file
       → (first : List (List ℕ)) × IsPrefix first more × FileHas old.name.fingerprint file (batches ++ first)
   first_has old batches more has file (first, prefix, there) = (
     first,
     prefix,
     record {
-      skipped = old.name.skipped;
+      name = old.name;
+      of_map = refl;
       own = has.own ++ first;
       stands = there;
-      short = short_more accepted skipping old.name.skipped has.own batches first has.short;
+      short = short_more accepted skipping (skipped_of old.name.compaction) has.own batches first has.short;
       bounded = has.bounded;
     },
   )

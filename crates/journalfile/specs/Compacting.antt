@@ -1,10 +1,10 @@
 -- A journal that is compacted (docs/SERVICE.md, "Journal").
-use Rattle.std.specs.Prelude.{◌≡◌, ◌⊎◌, ◌<◌, ◌^◌, ℕ, ◌+◌, ◌-◌, ◌*◌, max, min, List, ◌++◌, length, drop, Bool, true, false}
+use Rattle.std.specs.Prelude.{◌≡◌, ◌⊎◌, ◌^◌, ℕ, ◌+◌, ◌-◌, ◌*◌, max, min, List, ◌++◌, length, drop, Bool, true, false, Some}
 use Rattle.sha2.specs.Sha256.{sha256}
 use Rattle.compaction.specs.Compacted.{commands_of, compacted}
-use Rattle.journal.specs.Name.{name_bytes}
+use Rattle.journal.specs.Name.{IsBounded, journal_name, name_bytes, skipped_of}
 use Rattle.journal.specs.declared.name.JournalName.{JournalName}
-use Rattle.journal.specs.Record.{name_of, records}
+use Rattle.journal.specs.Record.{records}
 use Rattle.journal.specs.Reading.{StandsFor}
 use Rattle.journalfile.specs.Settled.{IsSettled}
 use Rattle.journalfile.specs.declared.checkpoint.Checkpoint.{Checkpoint}
@@ -29,23 +29,28 @@ pub record HasLeft (file : List ℕ) (all written : List (List ℕ)) (reader : R
 abbrev pub left_out : List (List ℕ) → ℕ
 left_out batches = length batches - length (compacted batches)
 
--- a journal is settled with what is left of the batches of another one, and its name says how many were left out
+-- the name of a journal of these batches that is compacted: it says how many batches were left out, now and before, and that what is left was written
+-- with its header
+abbrev pub compacted_name : JournalName → List (List ℕ) → JournalName
+compacted_name name batches =
+    journal_name name.fingerprint (Some (record { skipped = skipped_of name.compaction + left_out batches; written = length (compacted batches) }))
+
+-- a journal is settled with what is left of the batches of another one, under their name
 pub record IsCompacted {L : Type 0} (content : L → List ℕ) (may_leave : L → List ℕ → Type 0) (name : JournalName) (batches : List (List ℕ)) (journal : Journal L) : Type 0 where
   pub settled : IsSettled content may_leave journal (compacted batches)
-  pub of_map : journal.name.fingerprint ≡ name.fingerprint
-  pub skips : journal.name.skipped ≡ name.skipped + left_out batches
-  pub bounded : journal.name.skipped < 2 ^ 64
+  pub named : journal.name ≡ compacted_name name batches
+  pub bounded : IsBounded journal.name.compaction
 
 -- a journal was compacted, or it has the batches that it had
 abbrev pub HasCompacted : {L : Type 0} → (L → List ℕ) → (L → List ℕ → Type 0) → Journal L → Journal L → List (List ℕ) → Bool → Type 0
 HasCompacted content may_leave old new batches true = IsCompacted content may_leave old.name batches new
 HasCompacted content may_leave old new batches false = IsSettled content may_leave new batches × (new.name ≡ old.name)
 
--- a file stands for the batches of a journal; or for what is left of them, under the name that says how many were left out
+-- a file stands for the batches of a journal; or for what is left of them, under their name
 abbrev pub StandsForLeft : JournalName → List (List ℕ) → List ℕ → Type 0
 StandsForLeft name batches file =
-    StandsFor (name_bytes name) file batches
-    ⊎ ((name.skipped + left_out batches < 2 ^ 64) × StandsFor (name_of name.fingerprint (name.skipped + left_out batches)) file (compacted batches))
+    StandsFor name file batches
+    ⊎ (IsBounded (compacted_name name batches).compaction × StandsFor (compacted_name name batches) file (compacted batches))
 
 -- a journal of this length, in bytes, is compacted next where it has twice as many, and the least length at least
 abbrev pub next_checkpoint : Checkpoint → ℕ → Checkpoint

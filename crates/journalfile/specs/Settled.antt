@@ -1,7 +1,7 @@
 -- A journal whose log keeps all of it (docs/SERVICE.md, "Journal").
-use Rattle.std.specs.Prelude.{◌≡◌, ℕ, List, length}
+use Rattle.std.specs.Prelude.{◌≡◌, ◌≤◌, ℕ, List, length}
 use Rattle.sha2.specs.Sha256.{sha256}
-use Rattle.journal.specs.Name.{name_bytes}
+use Rattle.journal.specs.Name.{name_bytes, written_of}
 use Rattle.journal.specs.Record.{journal_of}
 use Rattle.journal.specs.Reading.{IsTorn}
 use Rattle.journalfile.specs.Log.{Only}
@@ -11,8 +11,9 @@ use Rattle.journalfile.specs.declared.writing.Journal.{Journal}
 abbrev pub GarblesNoRecord : (List ℕ → Type 0) → List ℕ → Type 0
 GarblesNoRecord garbled name = (left : List ℕ) → garbled left → IsTorn sha256 name left
 
--- the log has the journal of these batches, and each crash leaves all of it
+-- the log has the journal of these batches, among them all that were written with its header, and each crash leaves all of it
 pub record IsSettled {L : Type 0} (content : L → List ℕ) (may_leave : L → List ℕ → Type 0) (journal : Journal L) (batches : List (List ℕ)) : Type 0 where
   pub file : content journal.log ≡ journal_of sha256 (name_bytes journal.name) batches
   pub count : journal.count ≡ length batches
+  pub enough : written_of journal.name.compaction ≤ length batches
   pub durable : Only (content journal.log) (may_leave journal.log)

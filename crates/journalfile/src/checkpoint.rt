@@ -1,10 +1,10 @@
 //! A journal that is written again without the commands that later ones undo, and takes its own place.
 
-ghost use Rattle.std.specs.Prelude.{◌≡◌, ◌<◌, ◌≤◌, ◌+◌, ◌-◌, ◌^◌, [], List, ℕ, length, IfOk, OnOk};
+ghost use Rattle.std.specs.Prelude.{◌≡◌, ◌<◌, ◌≤◌, ◌+◌, ◌-◌, [], List, ℕ, Some, length, IfOk, OnOk};
 ghost use Rattle.sha2.specs.Sha256.{sha256};
 ghost use Rattle.compaction.specs.Compacted.{commands_of, compacted};
 ghost use Rattle.compaction.specs.LastChanges.{AreLast};
-ghost use Rattle.journal.specs.Name.{name_bytes};
+ghost use Rattle.journal.specs.Name.{IsBounded, journal_name, name_bytes, skipped_of, written_of};
 ghost use Rattle.journal.specs.Record.{journal_of};
 ghost use Rattle.journalfile.specs.Compacting.{HasCompacted, IsCompacted, StandsForLeft, next_checkpoint};
 ghost use Rattle.journalfile.specs.Frames.{IsRead};
@@ -18,7 +18,7 @@ use crate::reading::{NotCompacted, Records};
 use crate::replaceable::Replaceable;
 use crate::writing::Journal;
 use compaction::LastChanges;
-use journal::JournalName;
+use journal::{Compaction, JournalName};
 
 /// When a journal is compacted as it is served.
 #[derive(Clone, Copy, Debug)]
@@ -29,24 +29,27 @@ pub struct Checkpoint {
     pub due: u64,
 }
 
-// A journal without bytes beside another one, for so many of its batches.
+// A journal without bytes beside another one, for so many of its batches, all of which are to be written with its header.
 fn beside<L: Replaceable>(journal: &mut Journal<L>, left: u64) -> Result<Journal<L>, NotCompacted>
     requires fewer { left ≤ journal.old.count }
     ensures empty { L.reliable → IfOk result (λ successor. L.content successor.log ≡ []) }
     ensures count { IfOk result (λ successor. successor.count ≡ 0) }
-    ensures of_map { IfOk result (λ successor. successor.name.fingerprint ≡ journal.old.name.fingerprint) }
-    ensures skips { IfOk result (λ successor. successor.name.skipped ≡ journal.old.name.skipped + (journal.old.count - left)) }
-    ensures bounded { IfOk result (λ successor. successor.name.skipped < 2 ^ 64) }
+    ensures named { IfOk result (λ successor. successor.name ≡ journal_name journal.old.name.fingerprint
+        (Some (record { skipped = skipped_of journal.old.name.compaction + (journal.old.count - left); written = left }))) }
+    ensures bounded { IfOk result (λ successor. IsBounded successor.name.compaction) }
     ensures same { (journal.new.name ≡ journal.old.name) × (journal.new.count ≡ journal.old.count) }
     ensures read { L.reliable → IsRead L.content L.may_leave L.moment L.left_since journal.old.log journal.new.log }
 {
     let out = journal.count - left;
-    let Some(skipped) = journal.name.skipped.checked_add(out) else {
+    let Some(skipped) = journal.name.skipped().checked_add(out) else {
         return Err(NotCompacted);
     };
     let name = JournalName {
         fingerprint: journal.name.fingerprint,
-        skipped,
+        compaction: Some(Compaction {
+            skipped,
+            written: left,
+        }),
     };
     match journal.log.beside() {
         Ok(log) => Ok(Journal {
@@ -70,6 +73,7 @@ fn write_synced<L: Log>(
     requires empty { successor.old.count ≡ 0 }
     ensures settled { L.reliable → L.content successor.old.log ≡ [] → OnOk result ((all : List (List ℕ))
         → L.content log.old ≡ journal_of sha256 (name_bytes records.name) all → records.count ≡ length all → AreLast changes.now (commands_of all)
+        → written_of successor.old.name.compaction ≤ length (compacted all)
         → IsSettled L.content L.may_leave successor.new (compacted all)) }
     ensures synced { L.reliable → OnOk result (Only (L.content successor.new.log) (L.may_leave successor.new.log)) }
     ensures name { successor.new.name ≡ successor.old.name }
@@ -88,7 +92,7 @@ fn successor_of<L: Replaceable>(journal: &mut Journal<L>) -> Result<Journal<L>, 
         → IsCompacted L.content L.may_leave journal.old.name own successor) }
     ensures synced { L.reliable → IfOk result (λ successor. Only (L.content successor.log) (L.may_leave successor.log)) }
     ensures of_map { IfOk result (λ successor. successor.name.fingerprint ≡ journal.old.name.fingerprint) }
-    ensures bounded { IfOk result (λ successor. successor.name.skipped < 2 ^ 64) }
+    ensures bounded { IfOk result (λ successor. IsBounded successor.name.compaction) }
     ensures same { (journal.new.name ≡ journal.old.name) × (journal.new.count ≡ journal.old.count) }
     ensures read { L.reliable → IsRead L.content L.may_leave L.moment L.left_since journal.old.log journal.new.log }
 {

@@ -69,7 +69,7 @@ fn append<L: Log>(journal: &mut Journal<L>, bytes: &[u8]) -> Result<(), NotCompa
 
 // Adds the header to a journal without bytes.
 fn add_header<L: Log>(journal: &mut Journal<L>) -> Result<(), NotCompacted>
-    ensures added { L.reliable → OnOk result (L.content journal.new.log ≡ L.content journal.old.log ++ header (name_bytes journal.old.name)) }
+    ensures added { L.reliable → OnOk result (L.content journal.new.log ≡ L.content journal.old.log ++ header sha256 (name_bytes journal.old.name)) }
     ensures name { journal.new.name ≡ journal.old.name }
     ensures count { journal.new.count ≡ journal.old.count }
 {

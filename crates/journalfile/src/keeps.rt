@@ -92,7 +92,7 @@ impl<L: Log> Keeps for Journal<L> {
 
     ghost may_leave = { λ old new file. L.reliable × L.left_since new.log (L.moment old.log) file };
 
-    ghost stands = { λ journal. StandsFor (name_bytes journal.name) };
+    ghost stands = { λ journal. StandsFor journal.name };
 
     ghost stays = { λ journal batches file kept left. settled_stands L.content L.may_leave journal batches
         (kept left.0).1 file

@@ -4,7 +4,8 @@
 //! moment of the call leaves those from before it, and after them the first of these, or none (`any_moment`). `recover` brings a map
 //! machine to the state after just the batches of the log (`recovered`) or returns why it doesn't (`fault`). It opens each file that
 //! stands for accepted batches (`opens`), and may itself be interrupted at any moment (`any_moment`). It reads the log frame by frame,
-//! and so takes memory for the longest record, and not for the log. `read_skipped` says before that how many batches were left out.
+//! and so takes memory for the longest record, and not for the log. `read_name` reads the name of the journal before that, which
+//! says how many batches were left out of it, and how many were written with its header: where one of these is missing, it isn't opened.
 //!
 //! `Journal::compact` leaves just what `compaction` leaves of its batches (`compacted`), on a log that takes the place of its own: a crash
 //! at any moment leaves the batches before it, or what is left of them (`any_moment`). A `Journal` keeps just the batches that it was
@@ -31,6 +32,6 @@ mod writing;
 pub use checkpoint::{Checkpoint, CompactedJournal};
 pub use keeps::{KeepFault, Keeps, Nowhere};
 pub use log::Log;
-pub use recovery::{RecoverFault, Recovered, read_skipped, recover};
+pub use recovery::{RecoverFault, Recovered, read_name, recover};
 pub use replaceable::Replaceable;
 pub use writing::{Journal, PutFault};

@@ -73,8 +73,8 @@ impl Reader {
         ensures log { L.reliable → IsRead L.content L.may_leave L.moment L.left_since log.old log.new }
     {
         let mut frames = Frames::new(records.alloc);
-        let skipped = read_header(&mut frames, log, &records.name.fingerprint)?;
-        if skipped != records.name.skipped {
+        let name = read_header(&mut frames, log, &records.name.fingerprint)?;
+        if !records.name.is_same(&name) {
             return Err(NotCompacted);
         }
         Ok(Reader {

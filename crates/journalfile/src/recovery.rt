@@ -1,10 +1,13 @@
 //! Opening a journal: its batches are applied to a machine once more.
 
-ghost use Rattle.std.specs.Prelude.{◌≡◌, ◌⊎◌, ◌<◌, ◌+◌, ◌^◌, ◌++◌, ℕ, List, drop, IsSome, IfOk, OnOk, IfErr, MatchResult};
+ghost use Rattle.std.specs.Prelude.{◌≡◌, ◌⊎◌, ◌+◌, ◌++◌, List, ℕ, drop, IsSome, IfOk, OnOk, IfErr, MatchResult};
 ghost use Rattle.sharing.specs.Sharing.{after};
 ghost use Rattle.batches.specs.Batch.{State, accepted};
-ghost use Rattle.journal.specs.Name.{name_bytes};
-ghost use Rattle.journal.specs.Record.{header, name_of};
+ghost use Rattle.sha2.specs.Sha256.{sha256};
+ghost use Rattle.journal.specs.Header.{StartsWith};
+ghost use Rattle.journal.specs.Name.{IsBounded, name_bytes};
+ghost use Rattle.journal.specs.declared.name.JournalName.{JournalName};
+ghost use Rattle.journal.specs.Record.{header};
 ghost use Rattle.journal.specs.Reading.{StandAlike, StandsFor};
 ghost use Rattle.journalfile.specs.Log.{LeavesOnly, Only};
 ghost use Rattle.journalfile.specs.Frames.{IsAhead, IsRead};
@@ -35,7 +38,8 @@ pub struct Recovered {
 pub enum RecoverFault<F> {
     /// It isn't a journal, or not that of the map. Nothing was written.
     Header(HeaderFault),
-    /// After so many records there are bytes that are no record, and a whole record after them. Nothing was written.
+    /// After so many records there are bytes that are no record, and a whole record after them; or more records were written with the
+    /// header. Nothing was written.
     Damaged(u64),
     /// The batch of the record of this number isn't accepted. Nothing was written.
     Refused(u64),
@@ -66,23 +70,22 @@ pub(crate) struct Judged {
     pub(crate) cut: usize,
 }
 
-// Reads the header of the journal of a map, which says how many batches were left out.
-fn read_name<L: Log>(
+// Reads the header of a journal, which is that of its name.
+fn read_same_name<L: Log>(
     frames: &mut Frames,
     log: &mut L,
-    fingerprint: &[u8; 32],
-    skipped: u64,
+    name: &JournalName,
 ) -> Result<(), RecoverFault<L::Failure>>
     requires start { frames.old.position ≡ 0 }
     requires ahead { L.reliable → IsAhead (L.content log.old) frames.old }
     ensures ahead { L.reliable → OnOk result (IsAhead (L.content log.old) frames.new) }
-    ensures header { L.reliable → OnOk result (L.content log.old ≡ header (name_of fingerprint.now skipped) ++ drop frames.new.position (L.content log.old)) }
-    ensures fault { L.reliable → IfErr result (λ fault. (first : State) → IsFaultOf (name_of fingerprint.now skipped) L.content log.old log.new first fault) }
+    ensures header { L.reliable → OnOk result (L.content log.old ≡ header sha256 (name_bytes name.now) ++ drop frames.new.position (L.content log.old)) }
+    ensures fault { L.reliable → IfErr result (λ fault. (first : State) → IsFaultOf name.now L.content log.old log.new first fault) }
     ensures read { L.reliable → IsRead L.content L.may_leave L.moment L.left_since log.old log.new }
 {
-    match read_header(frames, log, fingerprint) {
+    match read_header(frames, log, &name.fingerprint) {
         Ok(found) => {
-            if found == skipped {
+            if name.is_same(&found) {
                 Ok(())
             } else {
                 Err(RecoverFault::Header(HeaderFault::OtherMap))
@@ -128,18 +131,22 @@ fn judge<L: Log>(
     log: &mut L,
     machine: &mut Machine,
 ) -> Result<Judged, RecoverFault<L::Failure>>
-    ensures judged { IfOk result (HasJudged (name_bytes name.now) L.reliable (L.content log.old) machine.old machine.new) }
-    ensures fault { L.reliable → IfErr result (λ fault. IsFaultOf (name_bytes name.now) L.content log.old log.new machine.old fault) }
+    ensures judged { IfOk result (HasJudged name.now L.reliable (L.content log.old) machine.old machine.new) }
+    ensures fault { L.reliable → IfErr result (λ fault. IsFaultOf name.now L.content log.old log.new machine.old fault) }
     ensures read { L.reliable → IsRead L.content L.may_leave L.moment L.left_since log.old log.new }
 {
     let mut frames = Frames::new(alloc);
-    if let Err(fault) = read_name(&mut frames, log, &name.fingerprint, name.skipped) {
+    if let Err(fault) = read_same_name(&mut frames, log, name) {
         return Err(fault);
     }
     let (count, end) = match replay(&mut frames, log, name, machine) {
         Ok(replayed) => replayed,
         Err(fault) => return Err(fault),
     };
+    // No append can have torn a record that was written with the header.
+    if count < name.written() {
+        return Err(RecoverFault::Damaged(count));
+    }
     frames.go_to(end);
     if contains_record(&mut frames, log, name)? {
         return Err(RecoverFault::Damaged(count));
@@ -158,9 +165,9 @@ fn judge_synced<L: Log>(
     log: &mut L,
     machine: &mut Machine,
 ) -> Result<Judged, RecoverFault<L::Failure>>
-    ensures judged { IfOk result (HasJudged (name_bytes name.now) L.reliable (L.content log.old) machine.old machine.new) }
+    ensures judged { IfOk result (HasJudged name.now L.reliable (L.content log.old) machine.old machine.new) }
     ensures durable { L.reliable → OnOk result (Only (L.content log.old) (L.may_leave log.new)) }
-    ensures fault { L.reliable → IfErr result (λ fault. IsFaultOf (name_bytes name.now) L.content log.old log.new machine.old fault) }
+    ensures fault { L.reliable → IfErr result (λ fault. IsFaultOf name.now L.content log.old log.new machine.old fault) }
     ensures read { L.reliable → IsRead L.content L.may_leave L.moment L.left_since log.old log.new }
 {
     match log.sync() {
@@ -176,10 +183,10 @@ fn open_log<L: Log>(
     log: &mut L,
     machine: &mut Machine,
 ) -> Result<Recovered, RecoverFault<L::Failure>>
-    ensures recovered { IfOk result (HasRecovered (name_bytes name.now) L.content L.reliable L.may_leave log.old log.new machine.old machine.new) }
-    ensures fault { L.reliable → IfErr result (λ fault. IsFaultOf (name_bytes name.now) L.content log.old log.new machine.old fault) }
+    ensures recovered { IfOk result (HasRecovered name.now L.content L.reliable L.may_leave log.old log.new machine.old machine.new) }
+    ensures fault { L.reliable → IfErr result (λ fault. IsFaultOf name.now L.content log.old log.new machine.old fault) }
     ensures any_moment { L.reliable → LeavesOnly L.moment L.left_since log.old log.new
-        (λ c. L.may_leave log.old c ⊎ StandAlike (name_bytes name.now) (L.content log.old) c) }
+        (λ c. L.may_leave log.old c ⊎ StandAlike name.now (L.content log.old) c) }
 {
     let Judged { count, end, cut } = match judge_synced(alloc, name, log, machine) {
         Ok(judged) => judged,
@@ -195,23 +202,25 @@ fn open_log<L: Log>(
     }
 }
 
-/// How many batches were left out of the journal of a map, as its header says. The machine that is given to `recover` has published
-/// as many.
-pub fn read_skipped<L: Log>(
+/// The name of the journal of a map, by its header. The machine that is given to `recover` has published as many batches as were left out
+/// of the journal.
+pub fn read_name<L: Log>(
     alloc: Global,
     fingerprint: &[u8; 32],
     log: &mut L,
-) -> Result<u64, RecoverFault<L::Failure>>
-    ensures header { L.reliable → IfOk result (λ skipped. (rest : List ℕ) × (L.content log.old ≡ header (name_of fingerprint.now skipped) ++ rest)) }
+) -> Result<JournalName, RecoverFault<L::Failure>>
+    ensures header { L.reliable → IfOk result (λ name. StartsWith (header sha256 (name_bytes name)) (L.content log.old)) }
+    ensures of_map { IfOk result (λ name. name.fingerprint ≡ fingerprint.now) }
+    ensures bounded { IfOk result (λ name. IsBounded name.compaction) }
     ensures fault { L.reliable → IfErr result (λ fault. IsNameFault fingerprint.now L.content log.old log.new fault) }
     ensures read { L.reliable → IsRead L.content L.may_leave L.moment L.left_since log.old log.new }
 
-    // Of a file that stands for batches the number is returned, unless memory is refused or the log fails.
-    ensures opens { L.reliable → (skipped : ℕ) (batches : List (List ℕ)) → skipped < 2 ^ 64
-        → StandsFor (name_of fingerprint.now skipped) (L.content log.old) batches → MatchResult result (λ found. found ≡ skipped) IsTransient }
+    // Of a file that stands for batches the name is returned, unless memory is refused or the log fails.
+    ensures opens { L.reliable → (name : JournalName) (batches : List (List ℕ)) → name.fingerprint ≡ fingerprint.now → IsBounded name.compaction
+        → StandsFor name (L.content log.old) batches → MatchResult result (λ found. found ≡ name) IsTransient }
 {
     match read_header(&mut Frames::new(alloc), log, fingerprint) {
-        Ok(skipped) => Ok(skipped),
+        Ok(name) => Ok(name),
         Err(fault) => Err(fault),
     }
 }
@@ -226,18 +235,20 @@ pub fn recover<L: Log>(
     log: &mut L,
     machine: &mut Machine,
 ) -> Result<Recovered, RecoverFault<L::Failure>>
-    ensures recovered { IfOk result (HasRecovered (name_bytes name.now) L.content L.reliable L.may_leave log.old log.new machine.old machine.new) }
+    ensures recovered { IfOk result (HasRecovered name.now L.content L.reliable L.may_leave log.old log.new machine.old machine.new) }
     ensures counted { IfOk result (λ recovered. machine.new.sequence ≡ machine.old.sequence + recovered.count) }
-    ensures fault { L.reliable → IfErr result (λ fault. IsFaultOf (name_bytes name.now) L.content log.old log.new machine.old fault) }
+    ensures fault { L.reliable → IfErr result (λ fault. IsFaultOf name.now L.content log.old log.new machine.old fault) }
 
     // A file that stands for accepted batches is opened, unless memory is refused or the log fails.
-    ensures opens { L.reliable → (batches : List (List ℕ)) → StandsFor (name_bytes name.now) (L.content log.old) batches
+    ensures opens { L.reliable → (batches : List (List ℕ)) → StandsFor name.now (L.content log.old) batches
         → IsSome (after accepted machine.old batches) → IfErr result IsTransient }
 
     // A crash at any moment leaves bytes that a crash before might have left, or bytes that stand for the same batches.
     ensures any_moment { L.reliable → LeavesOnly L.moment L.left_since log.old log.new
-        (λ c. L.may_leave log.old c ⊎ StandAlike (name_bytes name.now) (L.content log.old) c) }
+        (λ c. L.may_leave log.old c ⊎ StandAlike name.now (L.content log.old) c) }
 {
+    // the answer on `opens` takes from it that a fingerprint has 32 bytes
+    let _fingerprint = name.fingerprint;
     match open_log(alloc, name, log, machine) {
         Ok(recovered) => Ok(recovered),
         Err(fault) => Err(fault),

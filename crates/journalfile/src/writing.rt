@@ -70,7 +70,7 @@ impl<L: Log> Journal<L> {
 
         // A crash at any moment of the call leaves the batches from before it, and after them the first of the new ones, or none.
         ensures any_moment { L.reliable → (kept : List (List ℕ)) → IsSettled L.content L.may_leave self.old kept
-            → LeavesOnly L.moment L.left_since self.old.log self.new.log (StandsForFirst (name_bytes self.old.name) kept (texts_of batches.now)) }
+            → LeavesOnly L.moment L.left_since self.old.log self.new.log (StandsForFirst self.old.name kept (texts_of batches.now)) }
 
         ensures no_memory { result ≡ Err PutFault.NoMemory → self.new ≡ self.old }
         ensures name { self.new.name ≡ self.old.name }

@@ -1,12 +1,14 @@
 -- Why a journal isn't opened, without the log's own failure.
 use Rattle.std.proofs.lemmas.Bool.Decides.{nat_tests}
-use Rattle.std.proofs.Common.{◌<◌, ◌^◌, ap, arith, subst, sym, ◌∙◌, ◌≡◌, ◌≢◌, ◌&&◌, ◌==◌, refl, ℕ, zero, suc, Bool, true, false, not, List, ◌++◌, Option, None, Some}
+use Rattle.std.proofs.Common.{ap, arith, subst, sym, ◌∙◌, ◌≡◌, ◌≢◌, ◌&&◌, ◌==◌, refl, ℕ, zero, suc, Bool, true, false, not, List, ◌++◌, Option, None, Some}
 use Rattle.std.specs.Prelude.{MatchBool}
 use Rattle.journalfile.proofs.Skipping.{empties, empties_short}
 use Rattle.journalfile.specs.Keeping.{JournalHas, keeps_of}
 use Rattle.journalfile.specs.declared.writing.Journal.{Journal}
 use Rattle.batches.specs.Batch.{State}
+use Rattle.journal.specs.Name.{IsBounded, skipped_of}
 use Rattle.journal.specs.declared.header.HeaderFault.TheVariants as header_fault
+use Rattle.journal.specs.declared.name.JournalName.{JournalName}
 use Rattle.journalfile.specs.Recovery.{IsFaultOf, IsNameFault}
 use Rattle.journalfile.specs.declared.recovery.RecoverFault.{RecoverFault}
 use Rattle.journalfile.specs.declared.recovery.RecoverFault.TheVariants as recover_fault
@@ -21,6 +23,8 @@ use Rattle.program.specs.Performing.{Begun, HostView, IsServed, ServesNothing}
 -- the fault is that of the recovery without its failure
 pub erased-fault : {F : Type 0} (cause : RecoverFault F) → fault_of cause ≡ fault_of (erased cause)
 erased-fault (recover_fault.Header header_fault.NotAJournal) = refl
+erased-fault (recover_fault.Header header_fault.EarlierForm) = refl
+erased-fault (recover_fault.Header header_fault.Damaged) = refl
 erased-fault (recover_fault.Header header_fault.OtherMap) = refl
 erased-fault (recover_fault.Damaged number) = refl
 erased-fault (recover_fault.Refused number) = refl
@@ -28,9 +32,11 @@ erased-fault recover_fault.NoMemory = refl
 erased-fault (recover_fault.Failed failure) = refl
 
 -- and so are the conditions for it, where the bytes before are those of another log
-pub erased-is : {F L : Type 0} (name : List ℕ) (content : L → List ℕ) (given old new : L) (first : State) (cause : RecoverFault F) → content old ≡ content given
+pub erased-is : {F L : Type 0} (name : JournalName) (content : L → List ℕ) (given old new : L) (first : State) (cause : RecoverFault F) → content old ≡ content given
     → IsFaultOf name content old new first cause → IsFaultOf name content given new first (erased cause)
 erased-is name content given old new first (recover_fault.Header header_fault.NotAJournal) same is = rw same at is
+erased-is name content given old new first (recover_fault.Header header_fault.EarlierForm) same is = rw same at is
+erased-is name content given old new first (recover_fault.Header header_fault.Damaged) same is = rw same at is
 erased-is name content given old new first (recover_fault.Header header_fault.OtherMap) same is = rw same at is
 erased-is name content given old new first (recover_fault.Damaged number) same is = rw same at is
 erased-is name content given old new first (recover_fault.Refused number) same is = rw same at is
@@ -40,8 +46,7 @@ erased-is name content given old new first (recover_fault.Failed failure) same i
 -- those for a header that isn't read
 pub erased-name : {F L : Type 0} (fingerprint : List ℕ) (content : L → List ℕ) (old new : L) (cause : RecoverFault F)
     → IsNameFault fingerprint content old new cause → IsNameFault fingerprint content old new (erased cause)
-erased-name fingerprint content old new (recover_fault.Header header_fault.NotAJournal) is = is
-erased-name fingerprint content old new (recover_fault.Header header_fault.OtherMap) is = is
+erased-name fingerprint content old new (recover_fault.Header fault) is = is
 erased-name fingerprint content old new (recover_fault.Damaged number) is = is
 erased-name fingerprint content old new (recover_fault.Refused number) is = is
 erased-name fingerprint content old new recover_fault.NoMemory is = is
@@ -101,10 +106,10 @@ served-alike host keeps more begun served old new alike is =
 
 -- a settled journal that is compacted has its own batches, and as many empty ones before them as were left out of it
 pub settled-has : {L : Type 0} (content : L → List ℕ) (may_leave : L → List ℕ → Type 0) (journal : Journal L) (own : List (List ℕ))
-    → journal.name.skipped < 2 ^ 64 → IsSettled content may_leave journal own → JournalHas content may_leave journal (empties journal.name.skipped ++ own)
+    → IsBounded journal.name.compaction → IsSettled content may_leave journal own → JournalHas content may_leave journal (empties (skipped_of journal.name.compaction) ++ own)
 settled-has content may_leave journal own bounded settled = record {
   own = own;
   settled = settled;
-  short = empties_short journal.name.skipped own;
+  short = empties_short (skipped_of journal.name.compaction) own;
   bounded = bounded;
 }

@@ -1,15 +1,17 @@
 -- The journal of a map that is served (docs/SERVICE.md, "Journal").
-use Rattle.std.specs.Prelude.{◌≡◌, ◌⊎◌, ◌&&◌, ◌==◌, ◌<◌, ◌+◌, ◌*◌, ◌^◌, if◌then◌else◌, ℕ, Bool, not, MatchBool, List, [], ◌++◌, length, Option, None, Some, Err, codes}
+use Rattle.std.specs.Prelude.{◌≡◌, ◌⊎◌, ◌&&◌, ◌==◌, ◌+◌, ◌*◌, if◌then◌else◌, ℕ, Bool, not, MatchBool, List, [], ◌++◌, length, Option, None, Some, Err, codes}
 use Rattle.std.specs.List.{flat_map}
 use Rattle.std.specs.Fmt.{decimal}
 use Rattle.sha2.specs.Sha256.{sha256}
 use Rattle.batches.specs.Batch.{State, accepted}
 use Rattle.sharing.specs.Sharing.{after}
 use Rattle.journal.specs.Fingerprint.{sized, content_message}
-use Rattle.journal.specs.Name.{name_bytes}
-use Rattle.journal.specs.Record.{header, name_of}
+use Rattle.journal.specs.Header.{StartsWith}
+use Rattle.journal.specs.Name.{IsBounded, name_bytes, skipped_of}
+use Rattle.journal.specs.Record.{header}
 use Rattle.journal.specs.Reading.{StandsFor}
 use Rattle.journal.specs.declared.header.HeaderFault.TheVariants as header_fault
+use Rattle.journal.specs.declared.name.JournalName.{JournalName}
 use Rattle.compaction.specs.Compacted.{skipping}
 use Rattle.journalfile.specs.Keeping.{JournalHas}
 use Rattle.journalfile.specs.Recovery.{IsFaultOf, IsNameFault}
@@ -69,6 +71,8 @@ erased (recover_fault.Failed cause) = recover_fault.Failed tt
 -- why a journal isn't opened, by the fault of its recovery
 abbrev pub fault_of : {F : Type 0} → RecoverFault F → JournalFault
 fault_of (recover_fault.Header header_fault.NotAJournal) = fault.NotAJournal
+fault_of (recover_fault.Header header_fault.EarlierForm) = fault.EarlierForm
+fault_of (recover_fault.Header header_fault.Damaged) = fault.DamagedHeader
 fault_of (recover_fault.Header header_fault.OtherMap) = fault.OtherMap
 fault_of (recover_fault.Damaged number) = fault.Damaged number
 fault_of (recover_fault.Refused number) = fault.Refused number
@@ -88,6 +92,8 @@ log_message log_fault.NoMemory = codes "out of memory"
 -- the message on a journal's fault, which a number may follow
 unfoldable pub fault_message : JournalFault → List ℕ
 fault_message fault.NotAJournal = codes "it is no journal"
+fault_message fault.EarlierForm = codes "it is of an earlier form (KESMOCH JOURNAL 2), which this program doesn't read"
+fault_message fault.DamagedHeader = codes "its header is damaged"
 fault_message fault.OtherMap = codes "it is of another map"
 fault_message (fault.Damaged number) = codes "it is damaged after record "
 fault_message (fault.Refused number) = codes "the map doesn't accept record "
@@ -125,19 +131,19 @@ module _ {L : Type 0} (view : JournalView L) (path fingerprint : List ℕ) (firs
     pub log : L
     pub gives : view.gives path log
     pub of_map : journal.name.fingerprint ≡ fingerprint
-    pub bounded : journal.name.skipped < 2 ^ 64
+    pub bounded : IsBounded journal.name.compaction
     pub batches : List (List ℕ)
-    pub after : after accepted (skipping journal.name.skipped first) batches ≡ Some last
-    pub stood : view.reliable → StandsFor (name_bytes journal.name) (view.content log) batches
+    pub after : after accepted (skipping (skipped_of journal.name.compaction) first) batches ≡ Some last
+    pub stood : view.reliable → StandsFor journal.name (view.content log) batches
     pub settled : view.reliable → IsSettled view.content view.may_leave journal batches
     pub shorter : view.reliable → length (view.content log) ≡ length (view.content journal.log) + cut
 
   -- the header of a log names a journal of the map, which isn't opened
   pub record IsOpenFault (old new : L) (cause : RecoverFault (Unit {0})) : Type 0 where
-    pub skipped : ℕ
-    pub rest : List ℕ
-    pub named : view.content old ≡ header (name_of fingerprint skipped) ++ rest
-    pub fault : IsFaultOf (name_of fingerprint skipped) view.content old new (skipping skipped first) cause
+    pub name : JournalName
+    pub of_map : name.fingerprint ≡ fingerprint
+    pub named : StartsWith (header sha256 (name_bytes name)) (view.content old)
+    pub fault : IsFaultOf name view.content old new (skipping (skipped_of name.compaction) first) cause
 
   -- the bytes of a log have a fault: their header isn't that of a journal of the map, or the journal that it names isn't opened
   abbrev pub IsFaulty : L → L → RecoverFault (Unit {0}) → Type 0

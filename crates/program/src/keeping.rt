@@ -1,6 +1,6 @@
 //! The journal of a map that is served.
 
-ghost use Rattle.std.specs.Prelude.{◌≡◌, ◌<◌, ◌^◌, ◌++◌, ℕ, List, [], map, codes, IfOk, IfErr, MatchOption, OnOk};
+ghost use Rattle.std.specs.Prelude.{◌≡◌, ◌++◌, ℕ, List, [], map, codes, IfOk, IfErr, MatchOption, OnOk};
 ghost use Rattle.std.specs.Fmt.{decimal};
 ghost use Rattle.compaction.specs.Compacted.{skipping};
 ghost use Rattle.console.specs.Console.{IsReported};
@@ -14,7 +14,7 @@ use crate::host::{Files, Host, OpenFault};
 use console::{Failure, Writes, report};
 use itoa::Buffer;
 use journal::{HeaderFault, JournalName, UsedFile, fingerprint_of, push_header};
-use journalfile::{Journal, Log, RecoverFault, Recovered, read_skipped, recover};
+use journalfile::{Journal, Log, RecoverFault, Recovered, read_name, recover};
 use mapdefs::Map;
 use mapmachine::Machine;
 use mapparse::Files as MapFiles;
@@ -28,9 +28,13 @@ use subcommands::ReadMap;
 pub enum JournalFault {
     /// The file isn't one.
     NotAJournal,
+    /// An earlier program compacted it, whose headers have no digest.
+    EarlierForm,
+    /// Its header is cut short, or its digest isn't that of its name.
+    DamagedHeader,
     /// It is the journal of another map, or of other files.
     OtherMap,
-    /// After so many records there are bytes that are no record, and a whole record after them.
+    /// After so many records there are bytes that are no record, and a whole record after them; or more records were written with the header.
     Damaged(u64),
     /// The batch of the record of this number isn't accepted.
     Refused(u64),
@@ -46,6 +50,8 @@ impl JournalFault {
     {
         match self {
             JournalFault::NotAJournal
+            | JournalFault::EarlierForm
+            | JournalFault::DamagedHeader
             | JournalFault::OtherMap
             | JournalFault::Damaged(_)
             | JournalFault::Refused(_) => Failure::JournalFault,
@@ -71,6 +77,10 @@ impl JournalFault {
     {
         match self {
             JournalFault::NotAJournal => b"it is no journal",
+            JournalFault::EarlierForm => {
+                b"it is of an earlier form (KESMOCH JOURNAL 2), which this program doesn't read"
+            }
+            JournalFault::DamagedHeader => b"its header is damaged",
             JournalFault::OtherMap => b"it is of another map",
             JournalFault::Damaged(_) => b"it is damaged after record ",
             JournalFault::Refused(_) => b"the map doesn't accept record ",
@@ -192,7 +202,7 @@ fn header_of(alloc: Global, fingerprint: &[u8; 32]) -> Result<Vec<u8>, AllocErro
     let mut header = Vec::new(alloc);
     let name = JournalName {
         fingerprint: *fingerprint,
-        skipped: 0,
+        compaction: None,
     };
     push_header(&mut header, &name)?;
     Ok(header)
@@ -208,6 +218,8 @@ impl<F: Drop> From<RecoverFault<F>> for JournalFault {
     fn from(fault: RecoverFault<F>) -> JournalFault {
         match fault {
             RecoverFault::Header(HeaderFault::NotAJournal) => JournalFault::NotAJournal,
+            RecoverFault::Header(HeaderFault::EarlierForm) => JournalFault::EarlierForm,
+            RecoverFault::Header(HeaderFault::Damaged) => JournalFault::DamagedHeader,
             RecoverFault::Header(HeaderFault::OtherMap) => JournalFault::OtherMap,
             RecoverFault::Damaged(number) => JournalFault::Damaged(number),
             RecoverFault::Refused(number) => JournalFault::Refused(number),
@@ -260,7 +272,6 @@ pub(crate) struct OpenedJournal<L> {
 // The machine of a map after so many batches that were left out of its journal. The error is that memory was refused.
 fn machine_at(alloc: Global, map: Map, skipped: u64) -> Result<Machine, JournalFault>
     ensures machine { IfOk result (λ machine. machine ≡ skipping skipped (opened map)) }
-    ensures bounded { skipped < 2 ^ 64 }
     ensures fault { IfErr result is_unopened }
 {
     match Machine::open_at(alloc, map, skipped) {
@@ -283,12 +294,8 @@ pub(crate) fn open_journal<H: Host>(
         (journal_view H.journal ⟦<H::Log as Log>⟧ place.entry.host.now) place.entry.path.now fingerprint (opened map) fault) }
 {
     let mut log = log_of(alloc, place.host, place.path, &fingerprint)?;
-    let skipped = read_skipped(alloc, &fingerprint, &mut log)?;
-    let mut machine = machine_at(alloc, map, skipped)?;
-    let name = JournalName {
-        fingerprint,
-        skipped,
-    };
+    let name = read_name(alloc, &fingerprint, &mut log)?;
+    let mut machine = machine_at(alloc, map, name.skipped())?;
     let Recovered { count, length, cut } = recover(alloc, &name, &mut log, &mut machine)?;
     Ok(OpenedJournal {
         machine,

@@ -1,5 +1,6 @@
-ghost use Rattle.std.specs.Prelude.{◌≡◌, ◌<◌, ◌^◌, ◌||◌, ℕ, List, Err, IfErr, IfOk, OnOk, Some, None, is_some, true, false, vec_len};
+ghost use Rattle.std.specs.Prelude.{◌≡◌, ◌||◌, ℕ, List, Err, IfErr, IfOk, OnOk, Some, None, is_some, true, false, vec_len};
 ghost use Rattle.console.specs.Console.{LeavesOutput, is_input_failed};
+ghost use Rattle.journal.specs.Name.{IsBounded};
 ghost use Rattle.journalfile.specs.Settled.{GarblesNoRecord, IsSettled};
 ghost use Rattle.program.specs.Journals.{IsOpened, IsUnopened, checkpoint_of, journal_view, map_fingerprint};
 ghost use Rattle.program.specs.Performing.{IsServed, ServesJournal, ServesMachine, ServesMap, by_compacted, by_journal, host_view};
@@ -197,7 +198,7 @@ impl<R: Runtime, H: Host> Program<'_, R, H> {
     ) -> Ending<H::Port, H::Log>
         requires recognised { H.Log.reliable → (name : List ℕ) → GarblesNoRecord H.Log.garbled name }
         requires settled { (own : List (List ℕ)) × (H.Log.reliable → IsSettled H.Log.content H.Log.may_leave kept.keeper own) }
-        requires bounded { kept.keeper.name.skipped < 2 ^ 64 }
+        requires bounded { IsBounded kept.keeper.name.compaction }
         ensures serves { ServesJournal (host_view ⟦<H as Files>⟧ H.listens H.journal ⟦<H::Port as Port<H::Connection>>⟧
             ⟦<H::Log as Log>⟧ self.now.host.now) (record { machine = kept.machine; keeper = kept.keeper; service = service }) result
             (⟦<O as Writes>⟧.state output.old) (⟦<O as Writes>⟧.state output.new) }

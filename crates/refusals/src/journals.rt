@@ -8,7 +8,7 @@ use std::io::{self, Read};
 
 const JOURNAL: JournalName = JournalName {
     fingerprint: [7; 32],
-    skipped: 0,
+    compaction: None,
 };
 
 const BATCH: &[u8] = b"OFF a\n";
@@ -209,7 +209,7 @@ struct Compacting {
 
 impl Call for Compacting {
     fn state(&self, rt: &HostRuntime) -> io::Result<String> {
-        let (count, skipped) = (self.journal.count, self.journal.name.skipped);
+        let (count, skipped) = (self.journal.count, self.journal.name.skipped());
         let bytes = self.journal.log.bytes.len();
         Ok(format!(in rt.alloc(); "{count} batches, {skipped} left out, {bytes} bytes")?)
     }

@@ -109,12 +109,21 @@ const TORN: &str = "c000000000000000024f";
 const REFUSED: &str =
     "c000000000000000014f464620610a3900ee67a476174cfa1c912a0c5763d7fc6d72586c47ff348d9e29f777bcc764c0";
 
-// The header of such a journal of which one batch was left out, and that of one which says that none was.
+// The header of such a journal that was compacted: one batch was left out, and none written with the header.
 const COMPACTED: &str =
-    "4b45534d4f4348204a4f55524e414c20320ada21d5448cab06b0073428c7c16c73f905ee6f9dfec08b8b9291d2598a373f460000000000000001";
+    "4b45534d4f4348204a4f55524e414c20330a00000000000000010000000000000000da21d5448cab06b0073428c7c16c73f905ee6f9dfec08b8b9291d2598a373f46a7cc0136577ea9a7819677b154d83dd14a308cabe22a6e2893bdbcbddb44b8fc";
 
-const NONE_LEFT_OUT: &str =
-    "4b45534d4f4348204a4f55524e414c20320ada21d5448cab06b0073428c7c16c73f905ee6f9dfec08b8b9291d2598a373f460000000000000000";
+// The same with another digest.
+const UNSEALED: &str =
+    "4b45534d4f4348204a4f55524e414c20330a00000000000000010000000000000000da21d5448cab06b0073428c7c16c73f905ee6f9dfec08b8b9291d2598a373f46a7cc0136577ea9a7819677b154d83dd14a308cabe22a6e2893bdbcbddb44b8fd";
+
+// That of one of which none was left out, and one was written with the header.
+const ONE_WRITTEN: &str =
+    "4b45534d4f4348204a4f55524e414c20330a00000000000000000000000000000001da21d5448cab06b0073428c7c16c73f905ee6f9dfec08b8b9291d2598a373f4614a86ef5e8f9611532bebeeeadca6633dbf9ed7d2e0ef8a96ff9f7a345447609";
+
+// The header of such a journal that an earlier program compacted.
+const EARLIER: &str =
+    "4b45534d4f4348204a4f55524e414c20320ada21d5448cab06b0073428c7c16c73f905ee6f9dfec08b8b9291d2598a373f460000000000000001";
 
 // The signature of a journal, and a fingerprint that is all zeros.
 const OTHER: &str =
@@ -140,7 +149,9 @@ fn add_journal(held: &mut Vec<u8>, alloc: Global, path: &str) -> Result<(), Open
         }
         "refused.journal" => add(held, alloc, EMPTY) && add(held, alloc, REFUSED),
         "compacted.journal" => add(held, alloc, COMPACTED),
-        "zero.journal" => add(held, alloc, NONE_LEFT_OUT),
+        "unsealed.journal" => add(held, alloc, UNSEALED),
+        "missing.journal" => add(held, alloc, ONE_WRITTEN),
+        "earlier.journal" => add(held, alloc, EARLIER),
         "other.journal" => add(held, alloc, OTHER),
         "none.journal" => add(held, alloc, "4b45"),
         _ => return Err(OpenFault::Failed),

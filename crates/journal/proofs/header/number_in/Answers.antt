@@ -1,7 +1,8 @@
-use Rattle.std.proofs.Common.{ℕ, List, ◌∙◌, ap}
-use Rattle.std.specs.Int.{w64, from_be_bytes}
-use Rattle.journal.proofs.Names.{number_of}
+use Rattle.std.proofs.Common.{arith}
+use Rattle.std.proofs.lemmas.Nat.{be_bytes_8}
+use Rattle.journal.specs.Record.{sequence_bytes}
 use Rattle.journal.proofs.header.number_in.Goals as goal
 
 pub returns : goal.returns
-returns c number small is = c.from_be_bytes.ensures ∙ ap (λ (l : List ℕ). from_be_bytes w64 l) is ∙ number_of number small
+unfolding sequence_bytes
+returns c = be_bytes_8 c.args.bytes.now c.from_be_bytes.result c.requires (λ i. omega (arith, c.type_inv.bytes i)) c.from_be_bytes.ensures

@@ -13,7 +13,7 @@ use Rattle.journalfile.proofs.compacting.write_left.Goals.{then-not-is_empty+in_
 
 pub loop-reader-init : goal.loop-reader-init
 loop-reader-init g c =
-    let front = header (name_bytes c.args.successor.now.name) in
+    let front = header sha256 (name_bytes c.args.successor.now.name) in
     record {
       named = c.in_ok-add_header.ensures.name;
       fewer = omega (arith, c.in_ok-reader.ensures.number);

@@ -1,12 +1,12 @@
-use Rattle.std.proofs.Common.{ℕ, ◌+◌, sym, ◌∙◌, ap}
-use Rattle.journal.specs.Name.{name_bytes}
+use Rattle.std.proofs.Common.{ℕ, ◌+◌, sym, ◌∙◌, ap, ◌≡◌, length, rules}
 use Rattle.journalfile.proofs.Counting.{after_counts}
 use Rattle.journalfile.proofs.Opening.{transient}
 use Rattle.journalfile.proofs.recovery.recover.Goals as goal
 
 pub returns-in-Err-clause-opens : goal.returns-in-Err-clause-opens
-returns-in-Err-clause-opens g c reliable batches stands some =
-    transient (name_bytes c.args.name.now) g.L.Log.content c.args.log.now c.open_log.new.log c.args.machine.now batches stands some c.in-Err.fault (c.in-Err.ensures.fault reliable)
+returns-in-Err-clause-opens g c =
+    let long : length c.args.name.now.fingerprint ≡ 32 = search rules in
+    λ reliable batches stands some. transient c.args.name.now g.L.Log.content c.args.log.now c.open_log.new.log c.args.machine.now batches long stands some c.in-Err.fault (c.in-Err.ensures.fault reliable)
 
 pub returns-in-Ok-clause-counted : goal.returns-in-Ok-clause-counted
 returns-in-Ok-clause-counted g c =

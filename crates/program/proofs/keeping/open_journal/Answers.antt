@@ -1,27 +1,31 @@
-use Rattle.std.proofs.Common.{inl, inr}
+use Rattle.std.proofs.Common.{inl, inr, ℕ, ◌∙◌, ap}
 use Rattle.std.proofs.lemmas.Result.{err_from_is_err_and}
+use Rattle.compaction.specs.Compacted.{skipping}
+use Rattle.journal.specs.Name.{skipped_of}
+use Rattle.subcommands.specs.Session.{opened}
 use Rattle.program.proofs.Journals.{erased-fault, erased-is, erased-name}
 use Rattle.program.specs.Journals.{erased}
 use Rattle.program.proofs.keeping.open_journal.Goals as goal
 
-pub returns-in_err-skipped-clause-fault : goal.returns-in_err-skipped-clause-fault
-returns-in_err-skipped-clause-fault g c =
-    let p = err_from_is_err_and c.from_residual-in_err-skipped.result c.from_residual-in_err-skipped.ensures.1 in
-    let fault = c.in_err-skipped.field-0.0 in
+pub returns-in_err-name-clause-fault : goal.returns-in_err-name-clause-fault
+returns-in_err-name-clause-fault g c =
+    let p = err_from_is_err_and c.from_residual-in_err-name.result c.from_residual-in_err-name.ensures.1 in
+    let fault = c.in_err-name.field-0.0 in
     rw (p.1, p.2)
     (inr (
       c.in_ok-log.log,
-      c.read_skipped.new.log,
+      c.read_name.new.log,
       c.in_ok-log.ensures.given,
       erased fault,
       erased-fault fault,
-      λ reliable. inl (erased-name c.args.fingerprint g.H.Log.Log.content c.in_ok-log.log c.read_skipped.new.log fault (c.in_err-skipped.ensures.fault reliable)),
+      λ reliable. inl (erased-name c.args.fingerprint g.H.Log.Log.content c.in_ok-log.log c.read_name.new.log fault (c.in_err-name.ensures.fault reliable)),
     ))
 
 pub returns-in_err-count-clause-fault : goal.returns-in_err-count-clause-fault
 returns-in_err-count-clause-fault g c =
     let p = err_from_is_err_and c.from_residual-in_err-count.result c.from_residual-in_err-count.ensures.1 in
     let fault = c.in_err-count.field-0.0 in
+    let first = c.in_ok-machine.ensures.machine ∙ ap (λ (n : ℕ). skipping n (opened c.args.map)) c.skipped.ensures in
     rw (p.1, p.2)
     (inr (
       c.in_ok-log.log,
@@ -30,10 +34,10 @@ returns-in_err-count-clause-fault g c =
       erased fault,
       erased-fault fault,
       λ reliable. inr (record {
-        skipped = c.in_ok-skipped.skipped;
-        rest = (c.in_ok-skipped.ensures.header reliable).0;
-        named = (c.in_ok-skipped.ensures.header reliable).1;
-        fault = erased-is _ g.H.Log.Log.content c.in_ok-log.log c.read_skipped.new.log c.recover.new.log _ fault (c.in_ok-skipped.ensures.read reliable).same
-            (rw c.in_ok-machine.ensures.machine at c.in_err-count.ensures.fault reliable);
+        name = c.in_ok-name.name;
+        of_map = c.in_ok-name.ensures.of_map;
+        named = c.in_ok-name.ensures.header reliable;
+        fault = erased-is c.in_ok-name.name g.H.Log.Log.content c.in_ok-log.log c.read_name.new.log c.recover.new.log (skipping (skipped_of c.in_ok-name.name.compaction) (opened c.args.map)) fault (c.in_ok-name.ensures.read reliable).same
+            (rw first at c.in_err-count.ensures.fault reliable);
       }),
     ))

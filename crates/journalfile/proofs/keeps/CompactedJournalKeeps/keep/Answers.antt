@@ -62,7 +62,7 @@ returns-clause-any_moment g c kept has file left =
     let more = texts_of c.args.batches.now in
     let grown = more_has g.L.Log.content g.L.Log.may_leave old c.put.new.self kept more all (c.in-Ok.ensures.kept reliable all.own all.settled) c.in-Ok.ensures.name in
     (follows g.L.Log.moment g.L.Log.left_since old.log c.put.new.self.log c.compact_where_due.new.self.journal.log
-    (StandsForFirst (name_bytes old.name) all.own more)
+    (StandsForFirst old.name all.own more)
     (λ (f : List ℕ). FileHas c.put.new.self.name.fingerprint f (kept ++ more))
     (λ (f : List ℕ). (first : List (List ℕ)) × IsPrefix first more × FileHas old.name.fingerprint f (kept ++ first))
     (c.in-Ok.ensures.any_moment reliable all.own all.settled)

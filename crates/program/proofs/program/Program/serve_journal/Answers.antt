@@ -1,5 +1,5 @@
 use Rattle.std.proofs.Common.{◌++◌}
-use Rattle.journal.specs.Name.{name_bytes}
+use Rattle.journal.specs.Name.{name_bytes, skipped_of}
 use Rattle.journalfile.proofs.Skipping.{empties}
 use Rattle.program.proofs.Journals.{of-some, settled-has}
 use Rattle.program.proofs.program.Program.serve_journal.Goals as goal
@@ -12,7 +12,7 @@ serve_whole-requires-clause-ready g c κs lives = (
 
 pub serve_compacted-requires-clause-ready : goal.serve_compacted-requires-clause-ready
 serve_compacted-requires-clause-ready g c κs lives = (
-  empties c.args.kept.keeper.name.skipped ++ c.requires.settled.0,
+  empties (skipped_of c.args.kept.keeper.name.compaction) ++ c.requires.settled.0,
   λ reliable. (c.requires.recognised reliable, settled-has _ _ c.args.kept.keeper c.requires.settled.0 c.requires.bounded (c.requires.settled.1 reliable)),
 )
 
