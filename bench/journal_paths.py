@@ -5,10 +5,12 @@ Each row starts the program in a folder of its own. After it the folder must hav
 journal where one is expected. Rows of rights start it as nobody where the script runs as root, and a row of a full disk needs a
 file system that can be mounted: where it can't, the row is skipped by name. It ends with 1 where a row came out otherwise.
 """
+import fcntl
 import os
 import pathlib
 import resource
 import shutil
+import signal
 import socket
 import subprocess
 import sys
@@ -26,6 +28,8 @@ EMPTY = len(HEADER) + 32
 NOBODY = 65534
 TIMES = 40
 DESCRIPTORS = 48
+# Bytes of a journal with a few batches.
+SMALL = 300
 
 
 class Wrong(Exception):
@@ -178,6 +182,52 @@ def replaced_journals_fail(program, folder):
         expect("how it ended", server.ended(), (3, "fault journal journal: it can't be read or written\n"))
 
 
+def make_a_folder(path):
+    path.mkdir()
+
+
+def link_to_itself(path):
+    path.symlink_to(path.name)
+
+
+def make_what_nobody_may_open(path):
+    path.write_bytes(b"")
+    path.chmod(0)
+
+
+def make_a_socket(path):
+    with socket.socket(socket.AF_UNIX) as made:
+        made.bind(str(path))
+
+
+def make_what_another_program_locked(path):
+    path.write_bytes(b"")
+    make_what_another_program_locked.file = open(path, "rb+")
+    fcntl.flock(make_what_another_program_locked.file, fcntl.LOCK_EX)
+
+
+def what_took_the_path_of_a_journal_fails(program, folder):
+    for take in (make_a_folder, link_to_itself, make_what_nobody_may_open, make_a_socket, make_what_another_program_locked):
+        path = folder / "journal"
+        with Server(program, folder) as server:
+            expect("the first answer", server.submit(), "PUBLISHED")
+            path.unlink()
+            take(path)
+            expect(f"the answer after {take.__name__}", server.submit(), "FAILED")
+            expect("how it ended", server.ended(), (3, "fault journal journal: it can't be read or written\n"))
+        os.rmdir(path) if path.is_dir() else path.unlink()
+
+
+def a_second_server_at_the_path_ends_the_first(program, folder):
+    with Server(program, folder) as first:
+        expect("the first answer", first.submit(), "PUBLISHED")
+        (folder / "journal").unlink()
+        with Server(program, folder) as second:
+            expect("the answer of the second", second.submit(), "PUBLISHED")
+            expect("the next answer of the first", first.submit(), "FAILED")
+            expect("the next answer of the second", second.submit(), "PUBLISHED")
+
+
 def one_server_has_a_journal(program, folder):
     with Server(program, folder) as server:
         for _ in range(TIMES):
@@ -212,6 +262,23 @@ def few_descriptors():
     resource.setrlimit(resource.RLIMIT_NOFILE, (DESCRIPTORS, DESCRIPTORS))
 
 
+def small_files():
+    signal.signal(signal.SIGXFSZ, signal.SIG_IGN)
+    resource.setrlimit(resource.RLIMIT_FSIZE, (SMALL, SMALL))
+
+
+def a_limit_of_file_size_fails_a_batch(program, folder):
+    with Server(program, folder, bounded=small_files) as server:
+        answers = [server.submit()]
+        while answers[-1] == "PUBLISHED" and len(answers) < SMALL:
+            answers.append(server.submit())
+        expect("the first answer", answers[0], "PUBLISHED")
+        expect("the last answer", answers[-1], "FAILED")
+        expect("how it ended", server.ended(), (3, "fault journal journal: it can't be read or written\n"))
+    with Server(program, folder) as server:
+        expect("the answer without the limit", server.submit(), "PUBLISHED")
+
+
 def batches_are_kept_where_clients_take_every_descriptor(program, folder):
     with Server(program, folder, bounded=few_descriptors) as server:
         held = [socket.create_connection(("127.0.0.1", server.clients)) for _ in range(2 * DESCRIPTORS)]
@@ -237,8 +304,11 @@ ROWS = [
     full_disks_are_said,
     removed_journals_fail,
     replaced_journals_fail,
+    what_took_the_path_of_a_journal_fails,
+    a_second_server_at_the_path_ends_the_first,
     one_server_has_a_journal,
     torn_records_are_said,
+    a_limit_of_file_size_fails_a_batch,
     batches_are_kept_where_clients_take_every_descriptor,
 ]
 

@@ -181,24 +181,18 @@ impl JournalFile {
         })
     }
 
-    // An error where another file has the path, or none: a file that this program opened there is locked. Where the path can't be looked
-    // at, as without a free descriptor, nothing is known of it.
+    // An error where the path doesn't lead to this file, or where that can't be found out. It takes no descriptor.
     fn look_at_path(&self) -> io::Result<()> {
-        match open(&self.rt, self.path.as_str()) {
-            Ok(file) => match file.try_lock() {
-                Ok(()) => Err(io::Error::from(ErrorKind::NotFound)),
-                Err(_) => Ok(()),
-            },
-            Err(error) if error.kind() == ErrorKind::NotFound => Err(error),
-            Err(_) => Ok(()),
+        if leads_to(&self.rt, self.path.as_str(), &self.file)? {
+            Ok(())
+        } else {
+            Err(io::Error::from(ErrorKind::NotFound))
         }
     }
 
     // Gives the path of this file to another one, which has a path of its own. An error where another file has this one's path, or none.
     fn give_path(&self, other: &File, path: &str) -> io::Result<()> {
-        if !leads_to(&self.rt, self.path.as_str(), &self.file)? {
-            return Err(io::Error::from(ErrorKind::NotFound));
-        }
+        self.look_at_path()?;
         other.sync_all()?;
         fs::rename(&self.rt, path, self.path.as_str())
     }
