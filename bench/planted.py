@@ -185,7 +185,7 @@ def check(crates):
     """What the table names and isn't there, and what isn't so of the edits, a line each."""
     table, names = rows(), all_names(crates)
     for number, row in enumerate(table, 2):
-        yield from (f"bench/planted.csv:{number}: {what} isn't there" for what in missing(row, crates, names))
+        yield from (f"bench/planted.csv, row {number}: {what} isn't there" for what in missing(row, crates, names))
     yield from check_edits(table)
     listed = [(row["crate"], row["refused by"].removeprefix("edit ")) for row in table if kind_of(row) == "edit"]
     for name, crate in crates.items():

@@ -6,7 +6,8 @@ Each line has what was tried, and what the other clients saw:
 - one client sends 12 requests ahead, of pictures that take long; a tiny picture is asked for meanwhile, ten times. At most two
   of the long ones are to come between a request and its answer;
 - clients come at once, 1,500 of them, and each sends its request as soon as it is connected; twice, and with `full` eight times.
-  Each is to be answered;
+  Then as many come, and each sends its request 60 milliseconds after the last has come. Each is to be answered;
+- 40 clients ask for pictures that together take longer than `--timeout`, at one worker: each is to be answered;
 - 1,100 clients, and with `full` 1,500, send half a head, and again as soon as they are closed. Another client asks meanwhile, 30
   times, and with `full` 100: all answers but one are to come within two seconds.
 - a client takes a picture of 7 MB at 300 KB a second, where `--timeout` is 2. It is to come whole;
@@ -118,14 +119,22 @@ def try_followers(mapfile):
         return said(worst < 3 * one + 0.1, f"beside a client that sends 12 long requests ahead, of {one:.2f} s each: {worst:.2f} s at most")
 
 
-def burst(port, count):
-    """How many of so many clients, which come at once, were answered whole."""
+def burst(port, count, pause=0.0):
+    """How many of so many clients, which come at once, were answered whole. They send at once, or so long after all have come."""
     selector, answers = selectors.DefaultSelector(), {}
     for _ in range(count):
         stream = socket.create_connection(("127.0.0.1", port))
-        stream.sendall(TINY)
-        stream.setblocking(False)
+        if not pause:
+            stream.sendall(TINY)
         answers[stream] = b""
+    time.sleep(pause)
+    for stream in answers:
+        try:
+            if pause:
+                stream.sendall(TINY)
+        except OSError:
+            pass
+        stream.setblocking(False)
         selector.register(stream, selectors.EVENT_READ)
     until = time.monotonic() + 60
     while selector.get_map() and time.monotonic() < until:
@@ -144,8 +153,29 @@ def burst(port, count):
 
 def try_bursts(mapfile, bursts):
     with Server(mapfile, 4) as server:
-        counts = [burst(server.port, 1_500) for _ in range(bursts)]
-        return said(counts == [1_500] * bursts, f"of bursts of 1,500 clients were answered: {', '.join(map(str, counts))}")
+        counts = [burst(server.port, 1_500, pause) for pause in (0.0, 0.06) for _ in range(bursts)]
+        return said(counts == [1_500] * 2 * bursts, f"of bursts of 1,500 clients were answered: {', '.join(map(str, counts))}")
+
+
+def try_long_answers(mapfile):
+    with Server(mapfile, 1, "--timeout", "1") as server:
+        answers, began = [], time.monotonic()
+
+        def ask():
+            with socket.create_connection(("127.0.0.1", server.port)) as stream:
+                stream.sendall(head_of(QUERY.format("dear", 1_024, 1_024)))
+                try:
+                    answers.append(read_all(stream))
+                except OSError:
+                    answers.append(b"")
+
+        threads = [threading.Thread(target=ask) for _ in range(40)]
+        for thread in threads:
+            thread.start()
+        for thread in threads:
+            thread.join()
+        count = sum(answer.startswith(b"HTTP/1.1 200 ") and len(answer) > 3 * 1_024 * 1_024 for answer in answers)
+        return said(count == len(threads), f"of {len(threads)} clients whose answers took {time.monotonic() - began:.2f} s in all were answered: {count}")
 
 
 def keep_half_heads(port, count, all_sent, stop):
@@ -330,6 +360,7 @@ def main():
         name = mapfile.name
         wrong = try_followers(name)
         wrong += try_bursts(name, 8 if is_full else 2)
+        wrong += try_long_answers(name)
         wrong += try_half_heads(name, 1_500, 100, 99) if is_full else try_half_heads(name, 1_100, 30, 29)
         wrong += try_slow_reader(name)
         wrong += try_full_room(name)

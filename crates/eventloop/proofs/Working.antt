@@ -4,6 +4,7 @@ use Rattle.std.proofs.lemmas.Bool.{eqb-true, eqb-false}
 use Rattle.std.specs.Prelude.{IfNone, IfSome, MatchBool}
 use Rattle.eventloop.specs.Working.{AreAt, HasGivenWay, HasMadeRoom, HasRunAt, HasTurned, InTime, IsAt}
 use Rattle.turns.proofs.Order.{has-joins, joins-then}
+use Rattle.turns.proofs.Ranks.{neither-pending}
 use Rattle.turns.specs.Pressure.{IsFirst, IsWanted, NoneMay}
 use Rattle.turns.specs.Times.{deadline, is_unanswered}
 use Rattle.turns.specs.declared.pressure.Pressure.{Pressure}
@@ -14,7 +15,7 @@ use Rattle.turns.proofs.Runs.{run-none, run-step, runs-then}
 use Rattle.turns.specs.Queue.{has}
 use Rattle.turns.specs.Runs.{Reason, Overdue, Unanswered, Yields, IsReason, Step, Opens, Wakes, Serves, Leaves, IsNew, IsTurnOf, SlotTurn, Steps, Runs, HasRun, WorkerState, turns_of}
 use Rattle.turns.specs.Slots.{at_slot, OthersStay}
-use Rattle.turns.specs.Table.{Goes, connections, ready_slots, waiting_slots, has_room, timeouts_of, ClosedOrStayed, LeftOrStayed}
+use Rattle.turns.specs.Table.{Goes, connections, ready_slots, waiting_slots, has_room, is_pending, timeouts_of, ClosedOrStayed, LeftOrStayed}
 use Rattle.turns.specs.declared.open_connection.OpenConnection.{OpenConnection}
 use Rattle.turns.specs.declared.served.Closed.{Closed}
 use Rattle.turns.specs.declared.table.ConnectionTable.{ConnectionTable}
@@ -64,18 +65,45 @@ goes-then old between new first last = record {
   joins = joins-then (ready_slots old) (ready_slots between) (ready_slots new) first.joins last.joins;
 }
 
--- one more slot was looked at
-pub in-time-next : {T : Type 0} (now moment slot : ℕ) (old new : ConnectionTable T) → InTime now slot old → OthersStay slot (connections old) (connections new) → timeouts_of new ≡ timeouts_of old
-    → moment ≡ now → IfSome (at_slot (connections new) slot) (λ connection. moment < deadline (timeouts_of old) connection.phase) → InTime now (slot + 1) new
-in-time-next {T} now moment slot old new was others timeouts same here one less = go (one == slot) refl
+-- a slot that has nothing to do had nothing to do before some slots came to the queue
+not-pending : {T : Type 0} (old new : ConnectionTable T) → Goes old new → (slot : ℕ) → is_pending new slot ≡ false → is_pending old slot ≡ false
+not-pending old new goes slot none = go (has slot (ready_slots old)) refl (has slot (waiting_slots old)) refl
   where
+    no_turn : has slot (ready_slots new) ≡ false
+    no_turn = (neither-pending new slot none).0
+
+    go : (ready : Bool) → has slot (ready_slots old) ≡ ready → (waits : Bool) → has slot (waiting_slots old) ≡ waits → is_pending old slot ≡ false
+    go true r waits w =
+        let there : has slot (ready_slots new) ≡ true = rw goes.joins.1 (has-joins slot (ready_slots old) goes.joins.0 r) in
+        absurd (let clash : false ≡ true = sym no_turn ∙ there in cc clash)
+    go false r true w = elim (goes.keeps.waiting slot w) [
+      | inl there ↦ absurd (let clash : false ≡ true = sym no_turn ∙ there in cc clash)
+      | inr there ↦ absurd (let clash : false ≡ true = sym (neither-pending new slot none).1 ∙ there in cc clash)
+    ]
+    go false r false w = rw (r, w) refl
+
+-- one more slot was looked at
+pub in-time-next : {T : Type 0} (now moment slot : ℕ) (old new : ConnectionTable T) → InTime now slot old → OthersStay slot (connections old) (connections new) → Goes old new
+    → moment ≡ now → (is_pending old slot ≡ false → IfSome (at_slot (connections new) slot) (λ connection. moment < deadline (timeouts_of old) connection.phase)) → InTime now (slot + 1) new
+in-time-next {T} now moment slot old new was others goes same here one less idle = go (one == slot) refl
+  where
+    timeouts : timeouts_of new ≡ timeouts_of old
+    timeouts = goes.keeps.timeouts
+
+    before : is_pending old one ≡ false
+    before = not-pending old new goes one idle
+
     go : (b : Bool) → (one == slot) ≡ b → IfSome (at_slot (connections new) one) (λ connection. now < deadline (timeouts_of new) connection.phase)
-    go true e = subst (λ (k : ℕ). IfSome (at_slot (connections new) k) (λ connection. now < deadline (timeouts_of new) connection.phase)) (sym (eqb-true one slot e))
-        (subst (λ (t : Timeouts). IfSome (at_slot (connections new) slot) (λ connection. now < deadline t connection.phase)) (sym timeouts) (subst (λ (n : ℕ). IfSome (at_slot (connections new) slot) (λ connection. n < deadline (timeouts_of old) connection.phase)) same here))
+    go true e =
+        let equal : one ≡ slot = eqb-true one slot e in
+        subst (λ (k : ℕ). IfSome (at_slot (connections new) k) (λ connection. now < deadline (timeouts_of new) connection.phase)) (sym equal)
+        (subst (λ (t : Timeouts). IfSome (at_slot (connections new) slot) (λ connection. now < deadline t connection.phase)) (sym timeouts)
+        (subst (λ (n : ℕ). IfSome (at_slot (connections new) slot) (λ connection. n < deadline (timeouts_of old) connection.phase)) same
+        (here (subst (λ (k : ℕ). is_pending old k ≡ false) equal before))))
     go false e =
         let apart : one ≡ slot → ⊥ = eqb-false one slot e in
         subst (λ (o : Option (OpenConnection T)). IfSome o (λ connection. now < deadline (timeouts_of new) connection.phase)) (sym (others one apart))
-        (subst (λ (t : Timeouts). IfSome (at_slot (connections old) one) (λ connection. now < deadline t connection.phase)) (sym timeouts) (was one (omega (arith, less, apart))))
+        (subst (λ (t : Timeouts). IfSome (at_slot (connections old) one) (λ connection. now < deadline t connection.phase)) (sym timeouts) (was one (omega (arith, less, apart)) before))
 
 -- nothing is needed of a value that is there
 pub unneeded : {X : Type 0} (result : Option X) → IfSome result (λ _. Unit {0})
@@ -111,7 +139,7 @@ with-table asks table = record { table = table; asks = asks }
 module _ {A T : Type 0} (answers : A → List ℕ → Said → A → Type 0) (known : Transport T) where
   -- no step changes the times
   step-times : (step : Step T) (old new : WorkerState A T) → Steps answers known old step new → timeouts_of new.table ≡ timeouts_of old.table
-  step-times (Opens slot connection) old new (same, fresh, there, others, ready, goes) = goes.keeps.timeouts
+  step-times (Opens slot connection) old new (same, fresh, free, there, others, ready, goes) = goes.keeps.timeouts
   step-times (Wakes slot) old new (same, stay, goes) = goes.keeps.timeouts
   step-times (Serves turn) old new is = is.keeps.timeouts
   step-times (Leaves slot why) old new (same, reason, gone, others, goes) = goes.keeps.timeouts
@@ -148,10 +176,10 @@ module _ {A T : Type 0} (answers : A → List ℕ → Said → A → Type 0) (kn
 
   -- a connection whose time is over is taken from its slot, or none
   pub overdue-run : (slot now : ℕ) (old new : ConnectionTable T) (asks : A) (result : Option (OpenConnection T)) → IfSome result (λ connection. deadline (timeouts_of old) connection.phase ≤ now)
-      → LeftOrStayed slot result old new → Goes old new → TableRanAt now asks old new
-  overdue-run slot now old new asks None overdue stays goes = wakes-at now slot old new asks stays goes
-  overdue-run slot now old new asks (Some connection) overdue left goes =
-      leaves-at now slot (Overdue now) old new asks refl (subst (λ (o : Option (OpenConnection T)). IfSome o (λ found. deadline (timeouts_of old) found.phase ≤ now)) (sym left.was) overdue) left.gone left.others goes
+      → IfSome result (λ _. is_pending old slot ≡ false) → LeftOrStayed slot result old new → Goes old new → TableRanAt now asks old new
+  overdue-run slot now old new asks None overdue due stays goes = wakes-at now slot old new asks stays goes
+  overdue-run slot now old new asks (Some connection) overdue due left goes =
+      leaves-at now slot (Overdue now) old new asks refl (due, subst (λ (o : Option (OpenConnection T)). IfSome o (λ found. deadline (timeouts_of old) found.phase ≤ now)) (sym left.was) overdue) left.gone left.others goes
 
   -- a connection that isn't being answered is taken from its slot, or none
   pub unanswered-run : (slot : ℕ) (old new : ConnectionTable T) (asks : A) (result : Option (OpenConnection T)) → IfSome result (λ connection. is_unanswered connection.phase ≡ true)
@@ -166,10 +194,10 @@ module _ {A T : Type 0} (answers : A → List ℕ → Said → A → Type 0) (kn
   gave-way-run now why old new asks None at first wanted stays goes = wakes-at now 0 old new asks stays goes
   gave-way-run now why old new asks (Some one) at first wanted left goes = leaves-at now one.slot (Yields why) old new asks at (first, wanted) left.gone left.others goes
 
-  pub opens-run : (now slot : ℕ) (connection : OpenConnection T) (old new : ConnectionTable T) (asks : A) → IsNew connection → at_slot (connections new) slot ≡ Some connection
-      → OthersStay slot (connections old) (connections new) → has slot (ready_slots new) ≡ true → Goes old new → TableRanAt now asks old new
-  opens-run now slot connection old new asks fresh here others ready goes =
-      (Opens slot connection ∷ [], (with-table asks new, (refl, fresh, here, others, ready, goes), (refl, refl)), tt)
+  pub opens-run : (now slot : ℕ) (connection : OpenConnection T) (old new : ConnectionTable T) (asks : A) → IsNew connection → at_slot (connections old) slot ≡ None
+      → at_slot (connections new) slot ≡ Some connection → OthersStay slot (connections old) (connections new) → has slot (ready_slots new) ≡ true → Goes old new → TableRanAt now asks old new
+  opens-run now slot connection old new asks fresh free here others ready goes =
+      (Opens slot connection ∷ [], (with-table asks new, (refl, fresh, free, here, others, ready, goes), (refl, refl)), tt)
 
   pub given-way-run : (why : Pressure) (old new : ConnectionTable T) (asks : A) → HasGivenWay why old new → TableRan asks old new
   given-way-run why old new asks (goes, inl (same, none)) = wakes-run 0 old new asks same goes

@@ -1,12 +1,12 @@
 -- What a worker does with its connections (docs/WMS.md, "HTTP").
 use Rattle.std.specs.List.{All}
-use Rattle.std.specs.Prelude.{◌≡◌, ◌⊎◌, ◌≤◌, ◌<◌, ℕ, List, [], ◌∷◌, length, None, Some, true, IfSome}
+use Rattle.std.specs.Prelude.{◌≡◌, ◌⊎◌, ◌≤◌, ◌<◌, ℕ, List, [], ◌∷◌, length, None, Some, true, false, IfSome}
 use Rattle.httpedge.specs.Exchange.{Said}
 use Rattle.turns.specs.Pressure.{IsFirst, IsWanted, NoneMay}
 use Rattle.turns.specs.Queue.{has}
 use Rattle.turns.specs.Runs.{Reason, Overdue, Unanswered, Yields, Step, Opens, Wakes, Serves, Leaves, Runs, HasRun, WorkerState, turns_of}
 use Rattle.turns.specs.Slots.{at_slot, OthersStay}
-use Rattle.turns.specs.Table.{Goes, connections, ready_slots, waiting_slots, timeouts_of, has_room}
+use Rattle.turns.specs.Table.{Goes, connections, ready_slots, waiting_slots, timeouts_of, has_room, is_pending}
 use Rattle.turns.specs.Times.{deadline}
 use Rattle.turns.specs.declared.open_connection.OpenConnection.{OpenConnection}
 use Rattle.turns.specs.declared.pressure.Pressure.{Pressure}
@@ -33,11 +33,11 @@ HasGivenWay why old new = Goes old new × (
     ((connections new ≡ connections old) × NoneMay why old)
     ⊎ ((slot : ℕ) × IsFirst why old slot × IsWanted why old × (at_slot (connections new) slot ≡ None) × OthersStay slot (connections old) (connections new)))
 
--- the time of the connections at the first slots isn't over at a moment
+-- the time of the connections at the first slots that have nothing to do isn't over at a moment
 abbrev pub InTime : {T : Type 0} → ℕ → ℕ → ConnectionTable T → Type 0
-InTime now count table = (slot : ℕ) → slot < count → IfSome (at_slot (connections table) slot) (λ connection. now < deadline (timeouts_of table) connection.phase)
+InTime now count table = (slot : ℕ) → slot < count → is_pending table slot ≡ false → IfSome (at_slot (connections table) slot) (λ connection. now < deadline (timeouts_of table) connection.phase)
 
--- each connection whose time was over left
+-- each connection whose time was over left, unless it has something to do
 pub record HasLooked {T : Type 0} (now : ℕ) (old new : ConnectionTable T) : Type 0 where
   pub goes : Goes old new
   pub in_time : InTime now (length (connections old)) new
@@ -64,7 +64,7 @@ IsAt now Unanswered = Unit {0}
 IsAt now (Yields (pressure.Slot moment)) = moment ≡ now
 IsAt now (Yields (pressure.Room moment rate)) = moment ≡ now
 
--- these steps are made at a moment
+-- these steps begin at a moment
 abbrev pub AreAt : {T : Type 0} → ℕ → List (Step T) → Type 0
 AreAt now [] = Unit {0}
 AreAt now (Opens slot connection ∷ steps) = AreAt now steps

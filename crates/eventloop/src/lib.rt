@@ -1,13 +1,13 @@
 //! The event loop of a worker, which serves its connections in turns as they become ready, and the threads that run it.
 //!
 //! A connection comes to its worker by a `Handover`. The worker waits at its `Poller`, gives each connection that is ready its
-//! turn, and closes one whose time is over. The loop calls `ConnectionTable` of `turns`, whose contracts state what a turn
+//! turn, and closes one whose time is over and that has nothing to do. The loop calls `ConnectionTable` of `turns`, whose contracts state what a turn
 //! does and which connection has the next one.
 //!
 //! Proved: a loop goes by the steps of `turns` alone (`run`), from a table without connections to the worker that its thread gives
 //! back (`HasServed`, `WorkerThreads::end`). Between two looks at the poller at most one query is asked (`serve_some`), what the
-//! poller reports has a turn (`wait`, `laws::events_serve`), and a connection that has to give way does (`Orders`, `make_room`). Where it opens, closes and
-//! serves connections, turns and closings are made at the moment of its clock (`HasRunAt`); no clause says the moment of a whole round, nor of what follows
+//! poller reports has a turn (`wait`, `laws::events_serve`), and a connection that has to give way does (`Orders`, `find_slot`, `make_room`). Where it opens,
+//! closes and serves connections, turns begin and closings are made at the moment of its last look (`HasRunAt`); no clause says the moment of a whole round, nor of what follows
 //! once no slot is ready. No proof covers that the system reports each event, nor that threads run. Each call ends but `run` and those that wait.
 //!
 //! Terms: a worker *finishes* where no further connection comes to it: those that it has are served to their end. It *stops*
@@ -22,6 +22,7 @@ mod orders;
 mod poller;
 mod turning_away;
 mod worker;
+mod worker_clock;
 mod worker_threads;
 
 pub use handed_over::Ending;

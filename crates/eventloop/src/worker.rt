@@ -1,9 +1,10 @@
-ghost use Rattle.std.specs.Prelude.{◌≡◌, ◌<◌, ℕ, List, length, [], None, false, IfOk, IfSome, MatchBool, MatchOption};
+ghost use Rattle.std.specs.Prelude.{◌≡◌, ◌≤◌, ◌<◌, ℕ, List, length, [], None, false, IfNone, IfOk, IfSome, MatchBool, MatchOption, max};
 ghost use Rattle.eventloop.specs.Working.{HasGivenWay, HasMadeRoom, HasOpened, HasLooked, HaveTurns, HasRunAt, HasTurned, HasServedSome, state};
 ghost use Rattle.httpedge.specs.Session.{HasAsked, QueryOutcome};
+ghost use Rattle.turns.specs.Pressure.{NoneMay};
 ghost use Rattle.turns.specs.Runs.{HasRun};
 ghost use Rattle.turns.specs.Slots.{at_slot, OthersStay};
-ghost use Rattle.turns.specs.Table.{Goes, connections, ready_slots, timeouts_of, room_of};
+ghost use Rattle.turns.specs.Table.{Goes, IsFull, connections, is_pending, ready_slots, timeouts_of, room_of};
 ghost use Rattle.turns.specs.Times.{deadline};
 ghost use Rattle.turns.specs.declared.pressure.Pressure.TheVariants.{Slot};
 
@@ -13,13 +14,16 @@ use crate::handover::Handover;
 use crate::orders::Orders;
 use crate::poller::{Poller, Wakes};
 use crate::turning_away::turn_away;
+use crate::worker_clock::WorkerClock;
 use accesslog::{Cause, EndsEarly};
 use httpedge::Asks;
 use std::alloc::{AllocError, Global};
 use std::rt::Clock;
 use std::sync::Wait;
 use std::time::{Duration, Instant};
-use turns::{Closed, ConnectionTable, Next, OpenConnection, Served, Timeouts, Transport};
+use turns::{
+    Closed, ConnectionTable, Next, OpenConnection, Served, Timeouts, Transport, TurnClock,
+};
 
 /// While so many bytes of answers are to be sent, a worker makes no further answer.
 pub const MAX_OWED_BYTES: usize = 67_108_864;
@@ -33,6 +37,9 @@ const MAX_TURNS: u32 = 64;
 
 // How many milliseconds pass between two looks for connections whose time is over.
 const TIMEOUT_CHECK_MILLIS: u64 = 100;
+
+// How many milliseconds pass, at most, until a worker looks again whether a slot is free for a connection that waits.
+const SLOT_CHECK_MILLIS: u64 = 5;
 
 /// How many connections a worker has at most, and how long these may take.
 #[derive(Clone, Copy)]
@@ -51,11 +58,14 @@ pub struct Worker<A, T: Drop, P> {
     poller: P,
     table: ConnectionTable<T>,
     timeouts: Timeouts,
-    // The milliseconds of its clock, and when it last looked for connections whose time is over.
+    // The milliseconds of its clock behind its last wait, so that all that came before is known; and when it last looked for connections
+    // whose time is over.
     now: u64,
     looked: u64,
     // Whether a connection just gave way for room: others may have to.
     has_made_room: bool,
+    // Whether a connection waits for a slot.
+    lacks_slot: bool,
 }
 
 impl<A: Asks, T: Transport + EndsEarly + Drop, P: Poller<T>> Worker<A, T, P> {
@@ -82,6 +92,7 @@ impl<A: Asks, T: Transport + EndsEarly + Drop, P: Poller<T>> Worker<A, T, P> {
             now: 0,
             looked: 0,
             has_made_room: false,
+            lacks_slot: false,
         })
     }
 
@@ -109,19 +120,34 @@ impl<A: Asks, T: Transport + EndsEarly + Drop, P: Poller<T>> Worker<A, T, P> {
         }
     }
 
-    // Takes over the next connection that waits. Where no slot is free, one that isn't being answered gives way, or none is taken
-    // over. Returns whether one was.
+    // A slot for a further connection: a free one, or that of the connection that gives way first, if one may.
+    fn find_slot(&mut self) -> Option<usize>
+        ensures run { HasRunAt A.answers ⟦<T as Transport>⟧ self.old.now (state self.old) (state self.new) }
+        ensures known { IfSome result (λ slot. slot < length (connections self.new.table)) }
+        ensures free { IfSome result (λ slot. at_slot (connections self.new.table) slot ≡ None) }
+        ensures none { IfNone result (IsFull self.old.table × NoneMay (Slot self.old.now) self.old.table) }
+        ensures now { self.new.now ≡ self.old.now }
+    {
+        if let Some(slot) = self.table.free_slot() {
+            return Some(slot);
+        }
+        let closed = self.table.close_for_slot(self.now)?;
+        let slot = closed.slot;
+        give_way(closed);
+        Some(slot)
+    }
+
+    // Takes over the next connection that waits. Where there is no slot for it, it waits on. Returns whether one was taken over.
     fn take_over<R: Wait, W: Wakes>(&mut self, rt: &R, handover: &Handover<T, W>) -> bool
         ensures run { HasRunAt A.answers ⟦<T as Transport>⟧ self.old.now (state self.old) (state self.new) }
         ensures now { self.new.now ≡ self.old.now }
     {
+        self.lacks_slot = false;
         if !handover.has_waiting(rt) {
             return false;
         }
-        if let Some(closed) = self.table.close_for_slot(self.now) {
-            give_way(closed);
-        }
-        let Some(slot) = self.table.free_slot() else {
+        let Some(slot) = self.find_slot() else {
+            self.lacks_slot = true;
             return false;
         };
         let Some(transport) = handover.take(rt) else {
@@ -154,8 +180,9 @@ impl<A: Asks, T: Transport + EndsEarly + Drop, P: Poller<T>> Worker<A, T, P> {
         }
     }
 
-    // Makes a turn, if a slot has one. A connection that is over leaves. Returns whether a query may have been asked in it.
-    fn serve_one(&mut self) -> Option<bool>
+    // Makes a turn, if a slot has one. A connection that is over leaves. Returns whether a query may have been asked in it: then the clock
+    // was read behind it, for what the connection does next. The worker's own moment stays, as what came meanwhile isn't known yet.
+    fn serve_one<C: TurnClock>(&mut self, clock: &C) -> Option<bool>
         ensures turn { MatchOption result
             ((ready_slots self.old.table ≡ []) × HasRun A.answers ⟦<T as Transport>⟧ (state self.old) (state self.new))
             (λ _. HasTurned A.answers ⟦<T as Transport>⟧ (record { least = 1; now = self.old.now })
@@ -165,14 +192,14 @@ impl<A: Asks, T: Transport + EndsEarly + Drop, P: Poller<T>> Worker<A, T, P> {
             (λ asked. asked ≡ false → self.new.asks ≡ self.old.asks) }
         ensures now { self.new.now ≡ self.old.now }
     {
-        let served = self.table.serve_next(&mut self.asks, self.now)?;
+        let served = self.table.serve_next(&mut self.asks, self.now, clock)?;
         self.leave(served);
         Some(served.asked)
     }
 
     // Makes turns up to the first in which a query may have been asked, or some, or all that there are. Returns whether one may have
     // been asked.
-    fn serve_some(&mut self) -> bool
+    fn serve_some<C: TurnClock>(&mut self, clock: &C) -> bool
         ensures turns { MatchBool result
             (HasTurned A.answers ⟦<T as Transport>⟧ (record { least = 1; now = self.old.now })
             (state self.old) (state self.new))
@@ -183,7 +210,7 @@ impl<A: Asks, T: Transport + EndsEarly + Drop, P: Poller<T>> Worker<A, T, P> {
         ensures now { self.new.now ≡ self.old.now }
     {
         for _ in 0..MAX_TURNS {
-            match self.serve_one() {
+            match self.serve_one(clock) {
                 None => return false,
                 Some(true) => return true,
                 Some(false) => {}
@@ -192,11 +219,11 @@ impl<A: Asks, T: Transport + EndsEarly + Drop, P: Poller<T>> Worker<A, T, P> {
         false
     }
 
-    // Closes the connection at a slot where its time is over. The cause is noted, unless its client had all of its
-    // answers.
+    // Closes the connection at a slot where its time is over and it has nothing to do. The cause is noted, unless its client had all of
+    // its answers.
     fn close_overdue(&mut self, slot: usize)
         ensures run { HasRunAt A.answers ⟦<T as Transport>⟧ self.old.now (state self.old) (state self.new) }
-        ensures in_time { IfSome (at_slot (connections self.new.table) slot)
+        ensures in_time { is_pending self.old.table slot ≡ false → IfSome (at_slot (connections self.new.table) slot)
             (λ connection. self.old.now < deadline (timeouts_of self.old.table) connection.phase) }
         ensures others { OthersStay slot (connections self.old.table) (connections self.new.table) }
         ensures goes { Goes self.old.table self.new.table }
@@ -210,7 +237,7 @@ impl<A: Asks, T: Transport + EndsEarly + Drop, P: Poller<T>> Worker<A, T, P> {
         }
     }
 
-    // Closes those whose time is over.
+    // Closes those whose time is over and that have nothing to do.
     fn look(&mut self)
         ensures run { HasRunAt A.answers ⟦<T as Transport>⟧ self.old.now (state self.old) (state self.new) }
         ensures looked { HasLooked self.old.now self.old.table self.new.table }
@@ -246,7 +273,8 @@ impl<A: Asks, T: Transport + EndsEarly + Drop, P: Poller<T>> Worker<A, T, P> {
         handover.note_serving(rt, !self.table.is_empty());
     }
 
-    // Waits for events, and notes which connections may go on. It doesn't wait while a connection has a turn.
+    // Waits for events, and notes which connections may go on. It doesn't wait while a connection has a turn, and not for long while one
+    // waits for a slot.
     fn wait(&mut self, room: &mut [usize])
         ensures run { HasRun A.answers ⟦<T as Transport>⟧ (state self.old) (state self.new) }
         ensures woken { (slots : List ℕ)
@@ -255,6 +283,8 @@ impl<A: Asks, T: Transport + EndsEarly + Drop, P: Poller<T>> Worker<A, T, P> {
     {
         let at_most = if self.table.is_ready() || self.has_made_room {
             0
+        } else if self.lacks_slot {
+            SLOT_CHECK_MILLIS
         } else {
             TIMEOUT_CHECK_MILLIS
         };
@@ -300,22 +330,26 @@ impl<A: Asks, T: Transport + EndsEarly + Drop, P: Poller<T>> Worker<A, T, P> {
     }
 
     // Notes how much time has passed.
-    fn note_time(&mut self, passed: Option<Duration>)
+    fn note_time<C: TurnClock>(&mut self, clock: &C)
         ensures same { (self.new.table ≡ self.old.table) × (self.new.asks ≡ self.old.asks) }
+        ensures read { (moment : ℕ) × C.shows clock.now moment × (self.new.now ≡ max self.old.now moment) }
     {
-        if let Some(passed) = passed {
-            self.now = u64::try_from(passed.as_millis()).unwrap_or(u64::MAX);
-        }
+        self.now = self.now.max(clock.moment());
     }
 
     // Does what is to be done after a wait. Returns whether it has ended.
-    fn round<R: Wait, W: Wakes>(&mut self, rt: &R, handover: &Handover<T, W>) -> bool
+    fn round<R: Clock + Wait, W: Wakes>(
+        &mut self,
+        clock: &WorkerClock<'_, R>,
+        handover: &Handover<T, W>,
+    ) -> bool
         ensures run { HasRun A.answers ⟦<T as Transport>⟧ (state self.old) (state self.new) }
     {
+        let rt = clock.rt;
         // (no connection is handed over any more where a worker ends)
         let ending = self.obey(handover.orders(rt));
         self.take_over_all(rt, handover);
-        self.serve_some();
+        self.serve_some(clock);
         self.make_room();
         self.tick(rt, handover);
         self.has_ended(ending) && !handover.has_waiting(rt)
@@ -356,11 +390,12 @@ where
     let Ok(start) = Instant::now(rt) else {
         return worker;
     };
+    let clock = WorkerClock { rt, start };
     let mut room = [0; MAX_EVENTS];
     for _ in rt.forever() {
         worker.wait(&mut room);
-        worker.note_time(start.elapsed(rt).ok());
-        if worker.round(rt, handover) {
+        worker.note_time(&clock);
+        if worker.round(&clock, handover) {
             return worker;
         }
     }

@@ -5,7 +5,8 @@ use mapdefs::Items;
 use operations::Mime;
 use std::alloc::{AllocError, Global};
 use turns::{
-    ConnectionTable, Next, OpenConnection, ReadOutcome, Timeouts, Transport, WriteOutcome,
+    ConnectionTable, Next, OpenConnection, ReadOutcome, Timeouts, Transport, TurnClock,
+    WriteOutcome,
 };
 
 /// A client in memory: the bytes that it sends, and those that it got. Each call moves as many bytes as its pace has,
@@ -150,6 +151,23 @@ impl Asks for Echo {
     }
 }
 
+/// A clock that stands at a moment.
+#[derive(Clone, Copy)]
+pub struct ClockAt {
+    /// The milliseconds that it shows.
+    pub moment: u64,
+}
+
+impl TurnClock for ClockAt {
+    ghost use Rattle.std.specs.Prelude.{◌≡◌};
+
+    ghost shows = { λ clock moment. moment ≡ clock.moment };
+
+    fn moment(&self) -> u64 {
+        self.moment
+    }
+}
+
 /// The waker of a wait that never has to end early.
 #[derive(Drop)]
 pub struct NoWaker;
@@ -185,16 +203,17 @@ pub fn enter(
     Ok(Some(slot))
 }
 
-/// Serves until no slot has a turn, for so many turns at most. With `pushes` a connection that waits for its client to
-/// take bytes has a turn again.
+/// Serves until no slot has a turn, for so many turns at most, none of which takes a millisecond. With `pushes` a connection that waits
+/// for its client to take bytes has a turn again.
 pub fn serve_all(
     table: &mut ConnectionTable<Client>,
     asks: &mut Echo,
     now: u64,
     pushes: bool,
 ) -> u32 {
+    let clock = ClockAt { moment: now };
     for turns in 0..5_000 {
-        let Some(served) = table.serve_next(asks, now) else {
+        let Some(served) = table.serve_next(asks, now, &clock) else {
             return turns;
         };
         if pushes && served.next == Some(Next::Writable) {

@@ -88,11 +88,11 @@ fn got(alloc: Global, pace: &'static [usize], got: &mut Vec<u8>) -> Result<(), F
     enter(&mut table, alloc, slow.paced(&[1], &[1]), 10)?;
     let leaving = Client::new(alloc, b"GET ", true)?;
     enter(&mut table, alloc, leaving.paced(pace, pace), 10)?;
-    for _ in 0..400 {
-        serve_all(&mut table, &mut echo, 20, true);
+    for _ in 0..401 {
         for slot in 0..4 {
             table.wake(slot);
         }
+        serve_all(&mut table, &mut echo, 20, true);
     }
     for slot in 0..4 {
         if let Some(connection) = table.close_overdue(slot, 100_000) {

@@ -39,6 +39,22 @@ impl<R: Wait + Drop> Asks for Noting<R> {
     }
 }
 
+/// An answerer that takes 120 milliseconds for each query, and then notes it.
+#[derive(Drop)]
+pub struct Slow<R: Wait + Drop> {
+    pub system: HostRuntime,
+    pub noting: Noting<R>,
+}
+
+impl<R: Wait + Drop> Asks for Slow<R> {
+    ghost answers = { λ _ _ _ _. Unit {0} };
+
+    fn answer(&mut self, query: &[u8]) -> Result<Answer, Busy> {
+        thread::sleep(&self.system, Duration::from_millis(120));
+        self.noting.answer(query)
+    }
+}
+
 /// A client in memory whose bytes come once the queries that were asked have so many bytes, and which notes what it gets.
 #[derive(Drop)]
 pub struct Watched<R: Wait + Drop> {

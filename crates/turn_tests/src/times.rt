@@ -1,7 +1,7 @@
-use crate::clients::{Client, Echo, TIMEOUTS, enter, serve_all};
+use crate::clients::{Client, ClockAt, Echo, TIMEOUTS, enter, serve_all};
 use std::alloc::Global;
 use std::test::Fail;
-use turns::{ConnectionTable, Timeouts};
+use turns::{ConnectionTable, Next, Timeouts};
 
 const HEAD: &[u8] = b"GET /?a HTTP/1.1\r\n\r\n";
 
@@ -136,5 +136,85 @@ fn a_client_that_has_sent_all_is_over_with_its_last_answer(rt: HostRuntime) -> R
     pass(&mut table, &mut echo, &[1_100]);
     assert!(rt; table.close_overdue(0, 1_100).is_some());
     assert!(rt; table.close_overdue(0, 9_000).is_none());
+    Ok(())
+}
+
+// A turn that begins at 1,100 takes up to 4,700, as the clock shows behind its query, and further ones are at 4,750. Whether it waits
+// for this after the first, and is closed at this moment and not before.
+fn ends_after_a_long_query(
+    alloc: Global,
+    client: Client,
+    next: Next,
+    moment: u64,
+) -> Result<bool, Fail> {
+    let (mut table, mut echo) = opened(alloc, client)?;
+    let clock = ClockAt { moment: 4_700 };
+    let served = table.serve_next(&mut echo, 1_100, &clock);
+    let waits = served.and_then(|served| served.next) == Some(next);
+    serve_all(&mut table, &mut echo, 4_750, false);
+    Ok(waits && ends_at(&mut table, moment))
+}
+
+// It may be idle for 200, drain for 2,000, and take no byte for 3,000. The body of the second answer goes out in its second turn.
+#[test]
+fn what_follows_a_query_begins_behind_it(rt: HostRuntime) -> Result<(), Fail> {
+    let alloc = rt.alloc();
+    let bodiless = Client::new(alloc, b"GET /a HTTP/1.1\r\n\r\n", false)?;
+    assert!(rt; ends_after_a_long_query(alloc, bodiless, Next::Turn, 4_900)?);
+    let whole = Client::new(alloc, HEAD, false)?;
+    assert!(rt; ends_after_a_long_query(alloc, whole, Next::Turn, 4_950)?);
+    let last = Client::new(alloc, b"GET\r\n\r\n", false)?;
+    assert!(rt; ends_after_a_long_query(alloc, last, Next::Turn, 6_700)?);
+    let unread = Client::new(alloc, HEAD, false)?.paced(&[100], &[0]);
+    assert!(rt; ends_after_a_long_query(alloc, unread, Next::Writable, 7_700)?);
+    Ok(())
+}
+
+// Where no query is asked the clock isn't read: a head has its time from 1,150 on.
+#[test]
+fn a_turn_without_a_query_ends_when_it_begins(rt: HostRuntime) -> Result<(), Fail> {
+    let alloc = rt.alloc();
+    let client = Client::new(alloc, HEAD, false)?.paced(&[3, 0], &[1]);
+    let (mut table, mut echo) = opened(alloc, client)?;
+    let clock = ClockAt { moment: 2_500 };
+    let ended = table
+        .serve_next(&mut echo, 1_150, &clock)
+        .map(|served| served.ended);
+    assert!(rt; ended == Some(1_150));
+    table.serve_next(&mut echo, 1_160, &clock);
+    assert!(rt; ends_at(&mut table, 4_150));
+    Ok(())
+}
+
+// Its whole request is there, and others had their turns for 9 seconds. Its turn answers it, and it is idle then.
+#[test]
+fn the_time_of_a_connection_that_has_a_turn_is_not_over(rt: HostRuntime) -> Result<(), Fail> {
+    let alloc = rt.alloc();
+    let (mut table, mut echo) = opened(alloc, Client::new(alloc, HEAD, false)?)?;
+    assert!(rt; table.close_overdue(0, 10_000).is_none());
+    pass(&mut table, &mut echo, &[10_000]);
+    assert!(rt; ends_at(&mut table, 10_200));
+    Ok(())
+}
+
+// The second waits for room from 1,100 on, as the first takes no byte. Its head is late by 5,000 when it has room, and it is answered.
+#[test]
+fn the_time_of_a_connection_that_waits_for_room_is_not_over(rt: HostRuntime) -> Result<(), Fail> {
+    let alloc = rt.alloc();
+    let mut table = ConnectionTable::new(alloc, 2, TIMEOUTS, 1_000)?;
+    let mut echo = Echo {
+        alloc,
+        dots: 99_999,
+    };
+    let unread = Client::new(alloc, HEAD, false)?.paced(&[100], &[0]);
+    enter(&mut table, alloc, unread, 1_000)?;
+    enter(&mut table, alloc, Client::new(alloc, HEAD, false)?, 1_000)?;
+    serve_all(&mut table, &mut echo, 1_100, false);
+    assert!(rt; table.close_overdue(1, 9_100).is_none());
+    assert!(rt; table.close_overdue(0, 9_100).is_some());
+    serve_all(&mut table, &mut echo, 9_100, false);
+    assert!(rt; table.close_overdue(1, 9_299).is_none());
+    let answered = table.close_overdue(1, 9_300);
+    assert!(rt; answered.is_some_and(|connection| connection.transport.out.len() > 100_000));
     Ok(())
 }

@@ -1,10 +1,11 @@
 -- The slots of a worker: how many bytes they are owed, and which gives way first.
-use Rattle.std.proofs.Common.{◌≡◌, ◌∙◌, ◌<◌, ◌≤◌, ◌+◌, ℕ, suc, zero, List, [], ◌∷◌, ◌++◌, Option, None, Some, Bool, true, false, ◌||◌, inl, inr, length, get_or, nat_lt, refl, sym, ap, subst, arith, if◌then◌else◌}
+use Rattle.std.proofs.Common.{◌≡◌, ◌∙◌, ◌<◌, ◌≤◌, ◌+◌, ℕ, suc, zero, List, [], ◌∷◌, ◌++◌, Option, None, Some, Bool, true, false, inl, inr, length, get_or, nat_lt, refl, sym, ap, subst, arith, if◌then◌else◌}
 use Rattle.std.proofs.lemmas.Bool.{cases_lt, ltb-true, ltb-false}
 use Rattle.std.proofs.lemmas.List.{get_or_past}
+use Rattle.turns.proofs.Order.{neither}
 use Rattle.turns.specs.Pressure.{first_of, rank_at, rank_of, IsFoundIn, IsFirst, NoneMay, YieldsWithoutTurn}
 use Rattle.turns.specs.Queue.{has}
-use Rattle.turns.specs.Table.{connections, ready_slots, waiting_slots}
+use Rattle.turns.specs.Table.{connections, ready_slots, waiting_slots, is_pending}
 use Rattle.turns.specs.declared.pressure.Pressure.{Pressure}
 use Rattle.turns.specs.declared.table.ConnectionTable.{ConnectionTable}
 
@@ -17,9 +18,9 @@ free-more (x ∷ xs) free (suc slot) = free-more xs (λ i. free (suc i)) slot
 
 -- no connection beyond the slots has a rank
 rank-past : {T : Type 0} (pressure : Pressure) (table : ConnectionTable T) (slot : ℕ) → length (connections table) ≤ slot → rank_at pressure table slot ≡ None
-rank-past pressure table slot past = go (has slot (ready_slots table) || has slot (waiting_slots table)) refl
+rank-past pressure table slot past = go (is_pending table slot) refl
   where
-    go : (due : Bool) → (has slot (ready_slots table) || has slot (waiting_slots table)) ≡ due → rank_at pressure table slot ≡ None
+    go : (pending : Bool) → is_pending table slot ≡ pending → rank_at pressure table slot ≡ None
     go true e = rw e refl
     go false e = rw e (ap (rank_of pressure) (get_or_past (connections table) slot None past))
 
@@ -81,11 +82,14 @@ none-found pressure table count all none slot = elim (cases_lt slot count) [
   | inr past ↦ rank-past pressure table slot (omega (arith, all, past))
 ]
 
--- a connection with a rank has no turn, and doesn't wait for room
+-- where the connection at a slot has nothing to do, it has no turn, and doesn't wait for room
+pub neither-pending : {T : Type 0} (table : ConnectionTable T) (slot : ℕ) → is_pending table slot ≡ false → (has slot (ready_slots table) ≡ false) × (has slot (waiting_slots table) ≡ false)
+neither-pending table slot none = neither (has slot (ready_slots table)) (has slot (waiting_slots table)) none
+
+-- a connection with a rank has nothing to do
 pub yields-without-turn : {T : Type 0} → YieldsWithoutTurn T
-yields-without-turn pressure table slot first = go (has slot (ready_slots table)) refl (has slot (waiting_slots table)) refl
+yields-without-turn pressure table slot first = go (is_pending table slot) refl
   where
-    go : (ready : Bool) → has slot (ready_slots table) ≡ ready → (waits : Bool) → has slot (waiting_slots table) ≡ waits → (has slot (ready_slots table) ≡ false) × (has slot (waiting_slots table) ≡ false)
-    go true r waits w = absurd (let h : ◌≡◌ {A = Option ℕ} None (Some first.least) = rw r at first.is in cc)
-    go false r true w = absurd (let h : ◌≡◌ {A = Option ℕ} None (Some first.least) = rw (r, w) at first.is in cc)
-    go false r false w = (r, w)
+    go : (pending : Bool) → is_pending table slot ≡ pending → (has slot (ready_slots table) ≡ false) × (has slot (waiting_slots table) ≡ false)
+    go true e = absurd (let h : ◌≡◌ {A = Option ℕ} None (Some first.least) = rw e at first.is in cc)
+    go false e = neither-pending table slot e

@@ -1,27 +1,27 @@
 -- Runs of a table of connections.
 use Rattle.std.proofs.Common.{◌≡◌, ◌∙◌, ◌⊎◌, inl, inr, ℕ, List, [], ◌∷◌, ◌++◌, Bool, true, false, ◌==◌, Option, None, Some, option_map, ◌<◌, suc, length, arith, refl, sym, ap, subst, append_assoc, append-nil}
 use Rattle.std.proofs.KnownBytes.{Appends-nil, Appends-trans}
-use Rattle.std.proofs.lemmas.Bool.{eqb-true, eqb-false, ne_eqb}
-use Rattle.std.specs.Prelude.{IfNone, IfSome, nat_lt, if◌then◌else◌}
+use Rattle.std.proofs.lemmas.Bool.{eqb-true, eqb-false, eq-eqb, ne_eqb}
+use Rattle.std.specs.Prelude.{◌≤◌, IfNone, IfSome, nat_lt, if◌then◌else◌, unwrap_or}
 use Rattle.httpedge.specs.Exchange.{Said}
 use Rattle.httpedge.specs.Session.{QueryOutcome, HasAsked, HasRespondedWith, SessionState, new_session}
 use Rattle.turns.specs.Advancing.{IsNext, HasServed}
-use Rattle.turns.specs.Connection.{ConnectionState, IsTurn, connection_state, next_by}
+use Rattle.turns.specs.Connection.{ConnectionState, IsTurn, TurnTerms, connection_state, next_by}
 use Rattle.turns.specs.Drain.{next_drained, phase_drained}
 use Rattle.turns.proofs.Order.{has-joined, has-joins}
+use Rattle.turns.proofs.Ranks.{neither-pending, yields-without-turn}
 use Rattle.turns.specs.Queue.{has, joined, joins, before}
-use Rattle.turns.specs.Runs.{Step, Opens, Wakes, Serves, Leaves, IsNew, SlotTurn, IsTurnOf, Steps, Runs, WorkerState, comes, all_come, AreSaid, IsAnswered, IsQuiet, IsKept, RunsAnswer, RunsServe, TurnsStay, HasRun, turns_of}
+use Rattle.turns.specs.Runs.{Reason, Overdue, Unanswered, Yields, IsReason, KeepsUntilServed, ends_of, Step, Opens, Wakes, Serves, Leaves, IsNew, SlotTurn, IsTurnOf, Steps, Runs, WorkerState, comes, all_come, AreSaid, IsAnswered, IsQuiet, IsKept, RunsAnswer, RunsServe, TurnsStay, HasRun, turns_of}
 use Rattle.turns.specs.Slots.{SlotState, at_slot, slot_state, HasTurn}
-use Rattle.turns.specs.Table.{Goes, connections, ready_slots, waiting_slots, conditions_at, KeepsWaiting}
+use Rattle.turns.specs.Table.{Goes, connections, ready_slots, waiting_slots, terms_at, KeepsWaiting}
 use Rattle.turns.specs.Times.{is_over, is_draining}
 use Rattle.turns.specs.declared.open_connection.OpenConnection.{OpenConnection}
-use Rattle.turns.specs.declared.open_connection.TurnConditions.{TurnConditions}
 use Rattle.turns.specs.declared.outcomes.ReadOutcome.{ReadOutcome}
 use Rattle.turns.specs.declared.outcomes.ReadOutcome.TheVariants as read
 use Rattle.turns.specs.declared.table.ConnectionTable.{ConnectionTable}
 use Rattle.turns.specs.declared.times.Phase.{Phase}
 use Rattle.turns.specs.declared.turn.Next.{Next}
-use Rattle.turns.specs.declared.turn.TurnResult.{TurnResult}
+use Rattle.turns.specs.declared.open_connection.TurnEnd.{TurnEnd}
 use Rattle.turns.specs.declared.turn.Next.TheVariants as next
 use Rattle.turns.specs.declared.transport.Transport.{Ghosts as Transport}
 
@@ -85,9 +85,9 @@ module _ {A T : Type 0} (answers : A → List ℕ → Said → A → Type 0) (kn
   }
 
   -- so it is after a turn
-  turn-answered : (conditions : TurnConditions) (first : OpenConnection T) (old new : ConnectionState A T) (result : Next) → IsAnswered answers known first old.connection
-      → IsTurn answers known conditions old new result → IsAnswered answers known first new.connection
-  turn-answered conditions first old new result was turn = go (is_over old.connection.phase) refl (is_draining old.connection.phase) refl
+  turn-answered : (terms : TurnTerms) (first : OpenConnection T) (old new : ConnectionState A T) (result : Next) → IsAnswered answers known first old.connection
+      → IsTurn answers known terms old new result → IsAnswered answers known first new.connection
+  turn-answered terms first old new result was turn = go (is_over old.connection.phase) refl (is_draining old.connection.phase) refl
     where
       go : (over : Bool) → is_over old.connection.phase ≡ over → (draining : Bool) → is_draining old.connection.phase ≡ draining → IsAnswered answers known first new.connection
       go true over draining drains = subst (λ (c : OpenConnection T). IsAnswered answers known first c) (sym (turn.over over).0) was
@@ -129,9 +129,9 @@ module _ {A T : Type 0} (answers : A → List ℕ → Said → A → Type 0) (kn
   over-quiet new phase is over = inl (ap is_over is ∙ over)
 
   -- after a turn a connection has a further one, waits for room, or has nothing to do
-  turn-held : (conditions : TurnConditions) (old new : ConnectionState A T) (result : Next) → IsTurn answers known conditions old new result
+  turn-held : (terms : TurnTerms) (old new : ConnectionState A T) (result : Next) → IsTurn answers known terms old new result
       → (result ≡ next.Turn) ⊎ ((result ≡ next.Room) ⊎ IsQuiet known new.connection)
-  turn-held conditions old new result turn = go (is_over old.connection.phase) refl (is_draining old.connection.phase) refl
+  turn-held terms old new result turn = go (is_over old.connection.phase) refl (is_draining old.connection.phase) refl
     where
       drained : (outcome : ReadOutcome) (dropped : ℕ) → result ≡ next_drained outcome dropped → new.connection.phase ≡ phase_drained result old.connection.phase → known.reads old.connection.transport outcome new.connection.transport → (outcome ≡ read.WouldBlock → new.connection.exchange.buffer ≡ [])
           → (result ≡ next.Turn) ⊎ ((result ≡ next.Room) ⊎ IsQuiet known new.connection)
@@ -144,14 +144,14 @@ module _ {A T : Type 0} (answers : A → List ℕ → Said → A → Type 0) (kn
       drained read.End dropped is time one idle = inr (inr (over-quiet new.connection Phase.Over (rw is at time) refl))
       drained read.Failed dropped is time one idle = inr (inr (over-quiet new.connection Phase.Over (rw is at time) refl))
 
-      served : (turned : Next) (phase : Phase) → result ≡ next_by turned → (turned ≡ next.Failed → new.connection.phase ≡ Phase.Over) → IsNext known conditions.may_ask result new.connection.exchange new.connection.transport
+      served : (turned : Next) (phase : Phase) → result ≡ next_by turned → (turned ≡ next.Failed → new.connection.phase ≡ Phase.Over) → IsNext known terms.may_ask result new.connection.exchange new.connection.transport
           → (result ≡ next.Turn) ⊎ ((result ≡ next.Room) ⊎ IsQuiet known new.connection)
       served next.Turn phase is over waits = inl is
       served next.Readable phase is over waits =
-          let (before, read, wants, empty) = subst (λ (r : Next). IsNext known conditions.may_ask r new.connection.exchange new.connection.transport) is waits in
+          let (before, read, wants, empty) = subst (λ (r : Next). IsNext known terms.may_ask r new.connection.exchange new.connection.transport) is waits in
           inr (inr (inr (inl (before, read, empty))))
       served next.Writable phase is over waits =
-          let (before, written, owes) = subst (λ (r : Next). IsNext known conditions.may_ask r new.connection.exchange new.connection.transport) is waits in
+          let (before, written, owes) = subst (λ (r : Next). IsNext known terms.may_ask r new.connection.exchange new.connection.transport) is waits in
           inr (inr (inr (inr (before, written, owes))))
       served next.Room phase is over waits = inr (inl is)
       served next.Done phase is over waits = inl is
@@ -188,7 +188,7 @@ module _ {A T : Type 0} (answers : A → List ℕ → Said → A → Type 0) (kn
 
   step-keeps : HasRespondedWith [] [] [] new_session → (found : ℕ → Option (OpenConnection T)) (old new : WorkerState A T) (step : Step T)
       → Steps answers known old step new → Kept found old.table → Kept (comes found step) new.table
-  step-keeps starts found old new (Opens slot connection) (same, fresh, here, others, ready, goes) kept other now at = go (slot == other) refl
+  step-keeps starts found old new (Opens slot connection) (same, fresh, free, here, others, ready, goes) kept other now at = go (slot == other) refl
     where
       go : (b : Bool) → (slot == other) ≡ b → IsKept answers known (comes found (Opens slot connection)) new.table other now
       go true e =
@@ -214,14 +214,14 @@ module _ {A T : Type 0} (answers : A → List ℕ → Said → A → Type 0) (kn
           still found (comes found (Leaves slot why)) old.table new.table other now refl (goes-ready old.table new.table goes other) goes.keeps (kept other now (sym (others other apart) ∙ at))
   step-keeps starts found old new (Serves turn) had kept other now at = go (turn.slot == other) refl
     where
-      own : (r : Option Next) → turn.next ≡ r → turn.slot ≡ other → IfSome r (λ next. HasTurn answers known (conditions_at old.table turn.now) (slot_state (connections old.table) turn.slot old.asks) (slot_state (connections new.table) turn.slot new.asks) next)
+      own : (r : Option Next) → turn.next ≡ r → turn.slot ≡ other → IfSome r (λ next. HasTurn answers known (terms_at old.table turn.ended) (slot_state (connections old.table) turn.slot old.asks) (slot_state (connections new.table) turn.slot new.asks) next)
           → IfNone r ((connections new.table ≡ connections old.table) × (new.asks ≡ old.asks)) → IfNone r (at_slot (connections old.table) turn.slot ≡ None)
           → IsKept answers known (comes found (Serves turn)) new.table other now
       own None none equal nothing (stay, still_asks) free = absurd (let clash : ◌≡◌ {A = Option (OpenConnection T)} None (Some now) = sym free ∙ ap (at_slot (connections old.table)) equal ∙ ap (λ l. at_slot l other) (sym stay) ∙ at in cc clash)
       own (Some next) is equal one nobody empty =
           let same : one.after ≡ now = cc (one.is, at, equal) in
           let before = kept turn.slot one.before one.was in
-          let held : (has turn.slot (ready_slots new.table) ≡ true) ⊎ ((has turn.slot (waiting_slots new.table) ≡ true) ⊎ IsQuiet known one.after) = elim (turn-held (conditions_at old.table turn.now) (connection_state one.before old.asks) (connection_state one.after new.asks) next one.turn) [
+          let held : (has turn.slot (ready_slots new.table) ≡ true) ⊎ ((has turn.slot (waiting_slots new.table) ≡ true) ⊎ IsQuiet known one.after) = elim (turn-held (terms_at old.table turn.ended) (connection_state one.before old.asks) (connection_state one.after new.asks) next one.turn) [
             | inl again ↦ inl (had.turns (is ∙ ap Some again))
             | inr (inl room) ↦ elim (had.waits (is ∙ ap Some room)) [
               | inl ready ↦ inl ready
@@ -232,7 +232,7 @@ module _ {A T : Type 0} (answers : A → List ℕ → Said → A → Type 0) (kn
           let all : IsKept answers known found new.table turn.slot one.after = record {
             first = before.first;
             came = before.came;
-            answered = turn-answered (conditions_at old.table turn.now) before.first (connection_state one.before old.asks) (connection_state one.after new.asks) next before.answered one.turn;
+            answered = turn-answered (terms_at old.table turn.ended) before.first (connection_state one.before old.asks) (connection_state one.after new.asks) next before.answered one.turn;
             held = held;
           } in
           subst (λ (k : ℕ). IsKept answers known found new.table k now) equal (subst (λ (c : OpenConnection T). IsKept answers known found new.table turn.slot c) same all)
@@ -261,7 +261,7 @@ module _ {A T : Type 0} (answers : A → List ℕ → Said → A → Type 0) (kn
 
   pub runs-serve : RunsServe answers known
   runs-serve first last [] runs slot there less = absurd (omega (arith, less))
-  runs-serve first last (Opens at connection ∷ steps) (between, (same, fresh, here, others, ready, goes), rest) slot there less =
+  runs-serve first last (Opens at connection ∷ steps) (between, (same, fresh, free, here, others, ready, goes), rest) slot there less =
       joined-serve first.table between.table slot (length (turns_of steps)) _ goes there less (λ h l. runs-serve between last steps rest slot h l)
   runs-serve first last (Wakes at ∷ steps) (between, (same, stay, goes), rest) slot there less =
       joined-serve first.table between.table slot (length (turns_of steps)) _ goes there less (λ h l. runs-serve between last steps rest slot h l)
@@ -280,7 +280,7 @@ module _ {A T : Type 0} (answers : A → List ℕ → Said → A → Type 0) (kn
 
   pub turns-stay : TurnsStay answers known
   turns-stay first last [] (same, still_asks) slot there = inr (rw same there)
-  turns-stay first last (Opens at connection ∷ steps) (between, (same, fresh, here, others, ready, goes), rest) slot there =
+  turns-stay first last (Opens at connection ∷ steps) (between, (same, fresh, free, here, others, ready, goes), rest) slot there =
       turns-stay between last steps rest slot (goes-ready first.table between.table goes slot there)
   turns-stay first last (Wakes at ∷ steps) (between, (same, stay, goes), rest) slot there =
       turns-stay between last steps rest slot (goes-ready first.table between.table goes slot there)
@@ -296,10 +296,64 @@ module _ {A T : Type 0} (answers : A → List ℕ → Said → A → Type 0) (kn
           let behind : has slot had.rest ≡ true = has-rest slot turn.slot had.rest apart (rw had.first at there) in
           rw e (further (rw had.later (has-joins slot had.rest had.slots behind)))
 
+  -- such a connection is served, its worker ends, or it is still at its slot
+  abbrev Served : ℕ → OpenConnection T → List (Step T) → WorkerState A T → Type 0
+  Served slot connection steps last = (has slot (turns_of steps) ≡ true) ⊎ ((has slot (ends_of steps) ≡ true) ⊎ (at_slot (connections last.table) slot ≡ Some connection))
+
+  -- a connection that has a turn doesn't leave, unless its worker ends
+  leaves-ended : (table : ConnectionTable T) (at slot : ℕ) (why : Reason) (connection : OpenConnection T) (steps : List (Step T)) (last : WorkerState A T) → IsReason why table at → at ≡ slot
+      → has slot (ready_slots table) ≡ true → Served slot connection (Leaves at why ∷ steps) last
+  leaves-ended table at slot (Overdue now) connection steps last is equal there =
+      absurd (let clash : false ≡ true = sym (neither-pending table at is.0).0 ∙ (ap (λ k. has k (ready_slots table)) equal ∙ there) in cc clash)
+  leaves-ended table at slot Unanswered connection steps last is equal there = inr (inl (rw (eq-eqb at slot equal) refl))
+  leaves-ended table at slot (Yields pressure) connection steps last is equal there =
+      absurd (let clash : false ≡ true = sym (yields-without-turn pressure table at is.0).0 ∙ (ap (λ k. has k (ready_slots table)) equal ∙ there) in cc clash)
+
+  leaves-other : (at slot : ℕ) (why : Reason) (connection : OpenConnection T) (steps : List (Step T)) (last : WorkerState A T) → (at == slot) ≡ false → Served slot connection steps last
+      → Served slot connection (Leaves at why ∷ steps) last
+  leaves-other at slot (Overdue now) connection steps last e was = was
+  leaves-other at slot Unanswered connection steps last e was = rw e was
+  leaves-other at slot (Yields pressure) connection steps last e was = was
+
+  pub keeps-until-served : KeepsUntilServed answers known
+  keeps-until-served first last [] (same, still_asks) slot connection here there = inr (inr (ap (λ (t : ConnectionTable T). at_slot (connections t) slot) same ∙ here))
+  keeps-until-served first last (Opens at opened ∷ steps) (between, (same, fresh, free, comes, others, ready, goes), rest) slot connection here there =
+      go (λ h o. keeps-until-served between last steps rest slot connection h o) (at == slot) refl
+    where
+      go : (at_slot (connections between.table) slot ≡ Some connection → has slot (ready_slots between.table) ≡ true → Served slot connection steps last) → (b : Bool) → (at == slot) ≡ b
+          → Served slot connection (Opens at opened ∷ steps) last
+      go further true e =
+          let equal : at ≡ slot = eqb-true at slot e in
+          absurd (let clash : ◌≡◌ {A = Option (OpenConnection T)} None (Some connection) = sym free ∙ (ap (at_slot (connections first.table)) equal ∙ here) in cc clash)
+      go further false e =
+          let apart : slot ≡ at → ⊥ = λ equal. eqb-false at slot e (sym equal) in
+          further (others slot apart ∙ here) (goes-ready first.table between.table goes slot there)
+  keeps-until-served first last (Wakes at ∷ steps) (between, (same, stay, goes), rest) slot connection here there =
+      keeps-until-served between last steps rest slot connection (ap (λ l. at_slot l slot) stay ∙ here) (goes-ready first.table between.table goes slot there)
+  keeps-until-served first last (Leaves at why ∷ steps) (between, (same, reason, gone, others, goes), rest) slot connection here there =
+      go (λ h o. keeps-until-served between last steps rest slot connection h o) (at == slot) refl
+    where
+      go : (at_slot (connections between.table) slot ≡ Some connection → has slot (ready_slots between.table) ≡ true → Served slot connection steps last) → (b : Bool) → (at == slot) ≡ b
+          → Served slot connection (Leaves at why ∷ steps) last
+      go further true e = leaves-ended first.table at slot why connection steps last reason (eqb-true at slot e) there
+      go further false e =
+          let apart : slot ≡ at → ⊥ = λ equal. eqb-false at slot e (sym equal) in
+          leaves-other at slot why connection steps last e (further (others slot apart ∙ here) (goes-ready first.table between.table goes slot there))
+  keeps-until-served first last (Serves turn ∷ steps) (between, had, rest) slot connection here there =
+      go (λ h o. keeps-until-served between last steps rest slot connection h o) (turn.slot == slot) refl
+    where
+      go : (at_slot (connections between.table) slot ≡ Some connection → has slot (ready_slots between.table) ≡ true → Served slot connection steps last) → (b : Bool) → (turn.slot == slot) ≡ b
+          → Served slot connection (Serves turn ∷ steps) last
+      go further true e = inl (rw e refl)
+      go further false e =
+          let apart : slot ≡ turn.slot → ⊥ = λ equal. eqb-false turn.slot slot e (sym equal) in
+          let behind : has slot had.rest ≡ true = has-rest slot turn.slot had.rest apart (rw had.first at there) in
+          rw e (further (had.others slot apart ∙ here) (rw had.later (has-joins slot had.rest had.slots behind)))
+
   -- in a turn at most one query was asked
-  turn-asks : (conditions : TurnConditions) (old new : ConnectionState A T) (result : Next) → IsTurn answers known conditions old new result
+  turn-asks : (terms : TurnTerms) (old new : ConnectionState A T) (result : Next) → IsTurn answers known terms old new result
       → (queries : List QueryOutcome) × HasAsked answers old.asks queries new.asks
-  turn-asks conditions old new result turn = go (is_over old.connection.phase) refl (is_draining old.connection.phase) refl
+  turn-asks terms old new result turn = go (is_over old.connection.phase) refl (is_draining old.connection.phase) refl
     where
       go : (over : Bool) → is_over old.connection.phase ≡ over → (draining : Bool) → is_draining old.connection.phase ≡ draining → (queries : List QueryOutcome) × HasAsked answers old.asks queries new.asks
       go true over draining drains = let (same, still, failed) = turn.over over in ([], inl (refl, still))
@@ -309,10 +363,10 @@ module _ {A T : Type 0} (answers : A → List ℕ → Said → A → Type 0) (kn
   pub turned-asks : (old new : WorkerState A T) (turn : SlotTurn) → IsTurnOf answers known old turn new → (queries : List QueryOutcome) × HasAsked answers old.asks queries new.asks
   turned-asks old new turn had = go turn.next had.own had.nobody
     where
-      go : (r : Option Next) → IfSome r (λ next. HasTurn answers known (conditions_at old.table turn.now) (slot_state (connections old.table) turn.slot old.asks) (slot_state (connections new.table) turn.slot new.asks) next)
+      go : (r : Option Next) → IfSome r (λ next. HasTurn answers known (terms_at old.table turn.ended) (slot_state (connections old.table) turn.slot old.asks) (slot_state (connections new.table) turn.slot new.asks) next)
           → IfNone r ((connections new.table ≡ connections old.table) × (new.asks ≡ old.asks)) → (queries : List QueryOutcome) × HasAsked answers old.asks queries new.asks
       go None own (same, still) = ([], inl (refl, still))
-      go (Some next) own nobody = turn-asks (conditions_at old.table turn.now) (connection_state own.before old.asks) (connection_state own.after new.asks) next own.turn
+      go (Some next) own nobody = turn-asks (terms_at old.table turn.ended) (connection_state own.before old.asks) (connection_state own.after new.asks) next own.turn
 
   -- nothing was done
   pub run-none : (state : WorkerState A T) → HasRun answers known state state
@@ -336,14 +390,25 @@ module _ {A T : Type 0} (answers : A → List ℕ → Said → A → Type 0) (kn
   pub run-same : (old between new : WorkerState A T) → HasRun answers known old between → new.table ≡ between.table → new.asks ≡ between.asks → HasRun answers known old new
   run-same old between new (steps, runs) table asks = (steps ++ [], runs-then steps [] old between new runs (table, asks))
 
-  -- what the result of a turn of the slots says of its own connection
-  pub own-by : (conditions : TurnConditions) (old new : SlotState A T) (turned : Option TurnResult)
-      → IfSome turned (λ t. HasTurn answers known conditions old new t.next)
-      → IfSome (option_map (λ t. t.next) turned) (λ next. HasTurn answers known conditions old new next)
-  own-by conditions old new None own = tt
-  own-by conditions old new (Some turned) own = own
+  -- what the end of a turn of the slots says of its own connection
+  pub own-by : (terms : ℕ → TurnTerms) (began : ℕ) (old new : SlotState A T) (turned : Option TurnEnd)
+      → IfSome turned (λ t. HasTurn answers known (terms t.ended) old new t.next)
+      → IfSome (option_map (λ t. t.next) turned) (λ next. HasTurn answers known (terms (unwrap_or (option_map (λ t. t.ended) turned) began)) old new next)
+  own-by terms began old new None own = tt
+  own-by terms began old new (Some turned) own = own
 
 -- and of a slot with no connection
-pub none-by : (P : Type 0) (turned : Option TurnResult) → IfNone turned P → IfNone (option_map (λ t. t.next) turned) P
+pub none-by : (P : Type 0) (turned : Option TurnEnd) → IfNone turned P → IfNone (option_map (λ t. t.next) turned) P
 none-by P None is = is
 none-by P (Some turned) is = tt
+
+-- a turn ended no sooner than it began
+pub ends-later : (began : ℕ) (turned : Option TurnEnd) → IfSome turned (λ t. began ≤ t.ended) → began ≤ unwrap_or (option_map (λ t. t.ended) turned) began
+ends-later began None later = omega arith
+ends-later began (Some turned) later = later
+
+-- and at that moment where no query was asked
+pub unasked-by : (began : ℕ) (P : Type 0) (turned : Option TurnEnd) → IfSome turned (λ t. t.asked ≡ false → (t.ended ≡ began) × P) → IfNone turned P
+    → unwrap_or (option_map (λ t. t.asked) turned) false ≡ false → (unwrap_or (option_map (λ t. t.ended) turned) began ≡ began) × P
+unasked-by began P None unasked same is = (refl, same)
+unasked-by began P (Some turned) unasked nothing is = unasked is

@@ -1,5 +1,5 @@
 -- A turn of a connection, up to its closing (docs/WMS.md, "HTTP").
-use Rattle.std.specs.Prelude.{◌≡◌, ◌⊎◌, ◌≤◌, ◌<◌, ◌+◌, ℕ, List, [], length, true, false, not, ◌==◌}
+use Rattle.std.specs.Prelude.{◌≡◌, ◌⊎◌, ◌≤◌, ◌<◌, ◌+◌, ℕ, List, [], length, Bool, true, false, not, ◌==◌}
 use Rattle.std.specs.Io.KnownBytes.{Appends}
 use Rattle.httpedge.specs.Exchange.{Said}
 use Rattle.turns.specs.Advancing.{Advances, Calls, ExchangeState, IsNext, HasTaken}
@@ -31,25 +31,34 @@ connection_state connection asks = record { connection = connection; asks = asks
 abbrev pub exchange_of : {A T : Type 0} → ConnectionState A T → ExchangeState A T
 exchange_of state = record { exchange = state.connection.exchange; transport = state.connection.transport; asks = state.asks }
 
+-- what a turn was made under: whether a query might be answered in it, and when it ended
+pub record TurnTerms : Type 0 where
+  pub may_ask : Bool
+  pub ended : ℕ
+
+-- the terms of a turn under these conditions that ended at a moment
+abbrev pub ended_at : TurnConditions → ℕ → TurnTerms
+ended_at conditions ended = record { may_ask = conditions.may_ask; ended = ended }
+
 -- after its last answer a connection has further turns, in which it is drained
 abbrev pub next_by : Next → Next
 next_by next.Done = next.Turn
 next_by other = other
 
--- a turn before the last answer was sent: the connection goes on as its session does, and its phase changes by what happened. It waits for the call
--- that would have waited. It has a further turn at once only where bytes were taken or sent. It is read once at most, then written to once at most,
--- and then its sending side is closed, if that was the last answer. No other call is made
-pub record IsServed {A T : Type 0} (answers : A → List ℕ → Said → A → Type 0) (known : Transport T) (conditions : TurnConditions) (old new : ConnectionState A T) (result : Next) : Type 0 where
+-- a turn before the last answer was sent: the connection goes on as its session does, and its phase changes by what happened, at the moment at which
+-- the turn ended. It waits for the call that would have waited. It has a further turn at once only where bytes were taken or sent. It is read once at
+-- most, then written to once at most, and then its sending side is closed, if that was the last answer. No other call is made
+pub record IsServed {A T : Type 0} (answers : A → List ℕ → Said → A → Type 0) (known : Transport T) (terms : TurnTerms) (old new : ConnectionState A T) (result : Next) : Type 0 where
   pub turned : TurnResult
   pub advances : Advances answers known (exchange_of old) (exchange_of new) turned.sent
-  pub time : new.connection.phase ≡ phase_after old.connection.phase turned (not (owed_by new.connection == 0)) conditions.now
+  pub time : new.connection.phase ≡ phase_after old.connection.phase turned (not (owed_by new.connection == 0)) terms.ended
   pub moves : turned.next ≡ next.Turn → (0 < turned.sent) ⊎ HasTaken known.reads old.connection.exchange old.connection.transport new.connection.exchange new.connection.transport
   pub called : T
   pub calls : Calls known old.connection.transport called
   pub shut : turned.next ≡ next.Done → known.shuts called new.connection.transport
   pub unshut : (turned.next ≡ next.Done → ⊥) → new.connection.transport ≡ called
   pub next : result ≡ next_by turned.next
-  pub waits : IsNext known conditions.may_ask result new.connection.exchange new.connection.transport
+  pub waits : IsNext known terms.may_ask result new.connection.exchange new.connection.transport
 
 -- a turn after the last answer: one read, whose bytes are dropped. The connection is over at the end of what the client sends, at a fault, and where
 -- more than 1,048,576 bytes were dropped
@@ -67,8 +76,8 @@ pub record IsDrained {T : Type 0} (known : Transport T) (old : OpenConnection T)
 
 -- a turn of a connection: before its last answer was sent it is served, and after that it is drained; one that is over is reported as failed. Where
 -- no query may be answered, the answerer isn't called, and no more bytes are to be sent than before
-pub record IsTurn {A T : Type 0} (answers : A → List ℕ → Said → A → Type 0) (known : Transport T) (conditions : TurnConditions) (old new : ConnectionState A T) (result : Next) : Type 0 where
+pub record IsTurn {A T : Type 0} (answers : A → List ℕ → Said → A → Type 0) (known : Transport T) (terms : TurnTerms) (old new : ConnectionState A T) (result : Next) : Type 0 where
   pub over : is_over old.connection.phase ≡ true → (new.connection ≡ old.connection) × (new.asks ≡ old.asks) × (result ≡ next.Failed)
   pub drained : is_draining old.connection.phase ≡ true → IsDrained known old.connection new.connection result × (new.asks ≡ old.asks)
-  pub served : is_over old.connection.phase ≡ false → is_draining old.connection.phase ≡ false → IsServed answers known conditions old new result
-  pub no_more : conditions.may_ask ≡ false → (owed_by new.connection ≤ owed_by old.connection) × (new.asks ≡ old.asks)
+  pub served : is_over old.connection.phase ≡ false → is_draining old.connection.phase ≡ false → IsServed answers known terms old new result
+  pub no_more : terms.may_ask ≡ false → (owed_by new.connection ≤ owed_by old.connection) × (new.asks ≡ old.asks)

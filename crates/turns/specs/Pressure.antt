@@ -2,16 +2,21 @@
 use Rattle.std.specs.Prelude.{◌≡◌, ◌≢◌, ◌≤◌, ◌<◌, ℕ, ◌+◌, ◌-◌, ◌/◌, ◌^◌, ◌||◌, ◌&&◌, [], false, Option, None, Some, nat_lt, if◌then◌else◌}
 use Rattle.turns.specs.Queue.{has}
 use Rattle.turns.specs.Slots.{at_slot}
-use Rattle.turns.specs.Table.{connections, ready_slots, waiting_slots, has_room}
+use Rattle.turns.specs.Table.{connections, ready_slots, waiting_slots, has_room, is_pending}
 use Rattle.turns.specs.declared.open_connection.OpenConnection.{OpenConnection}
 use Rattle.turns.specs.declared.pressure.Pressure.{Pressure}
 use Rattle.turns.specs.declared.pressure.Pressure.TheVariants.{Slot, Room}
-use Rattle.turns.specs.declared.pressure.TheConstants.{PATIENCE_MILLIS}
+use Rattle.turns.specs.declared.pressure.TheConstants.{LONG_WAIT_MILLIS, PATIENCE_MILLIS}
 use Rattle.turns.specs.declared.table.ConnectionTable.{ConnectionTable}
 use Rattle.turns.specs.declared.times.Phase.{Phase}
 use Rattle.turns.specs.declared.times.Phase.TheVariants.{Opened, Idle, Head, Answer}
 
--- a head that is a second old may give way, after each connection that isn't amid one, by when its last bytes came
+-- a connection that was opened, or is between requests, may give way after a second, by when that began: before each head where it was so for ten
+-- seconds, and after each head else
+abbrev pub idle_rank : ℕ → ℕ → Option ℕ
+idle_rank passed since = if nat_lt passed PATIENCE_MILLIS then None else (if nat_lt passed LONG_WAIT_MILLIS then Some (2 ^ 65 + since) else Some since)
+
+-- a head may give way after a second, by when its last bytes came
 abbrev pub head_rank : ℕ → ℕ → Option ℕ
 head_rank passed moved = if nat_lt passed PATIENCE_MILLIS then None else Some (2 ^ 64 + moved)
 
@@ -20,10 +25,10 @@ head_rank passed moved = if nat_lt passed PATIENCE_MILLIS then None else Some (2
 abbrev pub answer_rank : ℕ → ℕ → ℕ → ℕ → Option ℕ
 answer_rank rate passed still sent = if nat_lt PATIENCE_MILLIS passed && (nat_lt PATIENCE_MILLIS still || nat_lt (sent / passed) rate) then Some (sent / passed) else None
 
--- for a slot, connections that were opened or are between requests may give way, by when that began, and then heads; for room, answers
+-- for a slot, connections that were opened or are between requests may give way, and heads; for room, answers
 abbrev pub rank : Pressure → Phase → Option ℕ
-rank (Slot now) (Opened since) = Some since
-rank (Slot now) (Idle since) = Some since
+rank (Slot now) (Opened since) = idle_rank (now - since) since
+rank (Slot now) (Idle since) = idle_rank (now - since) since
 rank (Slot now) (Head since moved) = head_rank (now - since) moved
 rank (Room now rate) (Answer since moved sent) = answer_rank rate (now - since) (now - moved) sent
 rank pressure phase = None
@@ -35,7 +40,7 @@ rank_of pressure (Some connection) = rank pressure connection.phase
 
 -- the rank of the connection at a slot of a table: it has none while it has a turn or waits for room
 abbrev pub rank_at : {T : Type 0} → Pressure → ConnectionTable T → ℕ → Option ℕ
-rank_at pressure table slot = if has slot (ready_slots table) || has slot (waiting_slots table) then None else rank_of pressure (at_slot (connections table) slot)
+rank_at pressure table slot = if is_pending table slot then None else rank_of pressure (at_slot (connections table) slot)
 
 -- the connection at a slot may give way, and none that may comes before it
 pub record IsFirst {T : Type 0} (pressure : Pressure) (table : ConnectionTable T) (slot : ℕ) : Type 0 where

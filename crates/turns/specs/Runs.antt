@@ -1,5 +1,5 @@
 -- Runs of a table of connections: what each connection was sent, and that none is forgotten (docs/WMS.md, "HTTP").
-use Rattle.std.specs.Prelude.{◌≡◌, ◌≢◌, ◌<◌, ◌≤◌, IfNone, IfSome, length, ◌⊎◌, ℕ, List, [], ◌∷◌, ◌++◌, Option, None, Some, true, false, ◌==◌, if◌then◌else◌}
+use Rattle.std.specs.Prelude.{◌≡◌, ◌≢◌, ◌<◌, ◌≤◌, IfNone, IfSome, length, ◌⊎◌, ℕ, List, [], ◌∷◌, ◌++◌, Option, None, Some, Bool, true, false, ◌==◌, if◌then◌else◌}
 use Rattle.std.specs.Io.KnownBytes.{Appends}
 use Rattle.httpedge.specs.Exchange.{Said}
 use Rattle.httpedge.specs.Session.{QueryOutcome, HasRespondedWith, new_session}
@@ -7,7 +7,7 @@ use Rattle.httpedge.specs.declared.stage.Stage.TheVariants.{Ended}
 use Rattle.turns.specs.Pressure.{IsFirst, IsWanted}
 use Rattle.turns.specs.Queue.{has, joins, before}
 use Rattle.turns.specs.Slots.{at_slot, slot_state, OthersStay, HasTurn}
-use Rattle.turns.specs.Table.{Goes, connections, ready_slots, waiting_slots, conditions_at, timeouts_of, KeepsWaiting}
+use Rattle.turns.specs.Table.{Goes, connections, ready_slots, waiting_slots, terms_at, is_pending, timeouts_of, KeepsWaiting}
 use Rattle.turns.specs.Times.{deadline, is_over, is_draining, is_unanswered}
 use Rattle.turns.specs.declared.open_connection.OpenConnection.{OpenConnection}
 use Rattle.turns.specs.declared.pressure.Pressure.{Pressure}
@@ -24,17 +24,21 @@ pub data Reason : Type 0 where
   Unanswered : Reason
   Yields : Pressure → Reason
 
--- what a reason needs of the connection at a slot, if there is one
+-- what a reason needs of the connection at a slot, if there is one. While it has a turn or waits for room its time isn't over
 abbrev pub IsReason : {T : Type 0} → Reason → ConnectionTable T → ℕ → Type 0
-IsReason (Overdue now) table slot = IfSome (at_slot (connections table) slot) (λ connection. deadline (timeouts_of table) connection.phase ≤ now)
+IsReason (Overdue now) table slot =
+    (is_pending table slot ≡ false) × IfSome (at_slot (connections table) slot) (λ connection. deadline (timeouts_of table) connection.phase ≤ now)
 IsReason Unanswered table slot = IfSome (at_slot (connections table) slot) (λ connection. is_unanswered connection.phase ≡ true)
 IsReason (Yields pressure) table slot = IsFirst pressure table slot × IsWanted pressure table
 
--- a turn: the slot that has it, what the connection there waits for after it, if there is one, and the moment
+-- a turn: the slot that has it, what the connection there waits for after it, if there is one, whether a query may have been asked, and when it began
+-- and ended
 pub record SlotTurn : Type 0 where
   pub slot : ℕ
   pub next : Option Next
+  pub asked : Bool
   pub now : ℕ
+  pub ended : ℕ
 
 -- a step of a table: a connection comes to a slot, the connection at a slot may go on, a slot has its turn, or the connection at a slot leaves it for a
 -- reason
@@ -60,11 +64,13 @@ pub record IsTurnOf {A T : Type 0} (answers : A → List ℕ → Said → A → 
   pub slots : List ℕ
   pub first : ready_slots old.table ≡ turn.slot ∷ rest
   pub later : ready_slots new.table ≡ joins rest slots
-  pub own : IfSome turn.next (λ next. HasTurn answers known (conditions_at old.table turn.now) (slot_state (connections old.table) turn.slot old.asks)
+  pub own : IfSome turn.next (λ next. HasTurn answers known (terms_at old.table turn.ended) (slot_state (connections old.table) turn.slot old.asks)
       (slot_state (connections new.table) turn.slot new.asks) next)
   pub nobody : IfNone turn.next ((connections new.table ≡ connections old.table) × (new.asks ≡ old.asks))
   pub empty : IfNone turn.next (at_slot (connections old.table) turn.slot ≡ None)
   pub others : OthersStay turn.slot (connections old.table) (connections new.table)
+  pub ends : turn.now ≤ turn.ended
+  pub unasked : turn.asked ≡ false → (turn.ended ≡ turn.now) × (new.asks ≡ old.asks)
   pub turns : turn.next ≡ Some Turn → has turn.slot (ready_slots new.table) ≡ true
   pub waits : turn.next ≡ Some Room → (has turn.slot (ready_slots new.table) ≡ true) ⊎ (has turn.slot (waiting_slots new.table) ≡ true)
   pub keeps : KeepsWaiting old.table new.table
@@ -72,8 +78,8 @@ pub record IsTurnOf {A T : Type 0} (answers : A → List ℕ → Said → A → 
 -- a worker made a step
 abbrev pub Steps : {A T : Type 0} → (A → List ℕ → Said → A → Type 0) → Transport T → WorkerState A T → Step T → WorkerState A T → Type 0
 Steps answers known old (Opens slot connection) new =
-    (new.asks ≡ old.asks) × IsNew connection × (at_slot (connections new.table) slot ≡ Some connection) × OthersStay slot (connections old.table) (connections new.table)
-    × (has slot (ready_slots new.table) ≡ true) × Goes old.table new.table
+    (new.asks ≡ old.asks) × IsNew connection × (at_slot (connections old.table) slot ≡ None) × (at_slot (connections new.table) slot ≡ Some connection)
+    × OthersStay slot (connections old.table) (connections new.table) × (has slot (ready_slots new.table) ≡ true) × Goes old.table new.table
 Steps answers known old (Wakes slot) new = (new.asks ≡ old.asks) × (connections new.table ≡ connections old.table) × Goes old.table new.table
 Steps answers known old (Serves turn) new = IsTurnOf answers known old turn new
 Steps answers known old (Leaves slot why) new =
@@ -157,6 +163,27 @@ abbrev pub TurnsStay : {A T : Type 0} → (A → List ℕ → Said → A → Typ
 TurnsStay {A} {T} answers known =
     (first last : WorkerState A T) (steps : List (Step T)) → Runs answers known first steps last
     → (slot : ℕ) → has slot (ready_slots first.table) ≡ true → (has slot (turns_of steps) ≡ true) ⊎ (has slot (ready_slots last.table) ≡ true)
+
+-- the law of times: a connection that leaves because its time is over has no turn, and doesn't wait for room
+abbrev pub OverdueWithoutTurn : Type 0 → Type 0
+OverdueWithoutTurn T = (now : ℕ) (table : ConnectionTable T) (slot : ℕ) → IsReason (Overdue now) table slot → (has slot (ready_slots table) ≡ false) × (has slot (waiting_slots table) ≡ false)
+
+-- the slots whose connections left because their worker ends, in order
+abbrev pub ends_of : {T : Type 0} → List (Step T) → List ℕ
+ends_of [] = []
+ends_of (Opens slot connection ∷ steps) = ends_of steps
+ends_of (Wakes slot ∷ steps) = ends_of steps
+ends_of (Serves turn ∷ steps) = ends_of steps
+ends_of (Leaves slot (Overdue now) ∷ steps) = ends_of steps
+ends_of (Leaves slot Unanswered ∷ steps) = slot ∷ ends_of steps
+ends_of (Leaves slot (Yields pressure) ∷ steps) = ends_of steps
+
+-- the law of connections that have a turn: whatever steps are made, such a connection is served, its worker ends, or it is still at its slot
+abbrev pub KeepsUntilServed : {A T : Type 0} → (A → List ℕ → Said → A → Type 0) → Transport T → Type 0
+KeepsUntilServed {A} {T} answers known =
+    (first last : WorkerState A T) (steps : List (Step T)) → Runs answers known first steps last
+    → (slot : ℕ) (connection : OpenConnection T) → at_slot (connections first.table) slot ≡ Some connection → has slot (ready_slots first.table) ≡ true
+    → (has slot (turns_of steps) ≡ true) ⊎ ((has slot (ends_of steps) ≡ true) ⊎ (at_slot (connections last.table) slot ≡ Some connection))
 
 -- a worker made some steps
 abbrev pub HasRun : {A T : Type 0} → (A → List ℕ → Said → A → Type 0) → Transport T → WorkerState A T → WorkerState A T → Type 0

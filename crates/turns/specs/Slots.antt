@@ -1,9 +1,8 @@
 -- The connections of a worker, each at a slot (docs/WMS.md, "HTTP").
 use Rattle.std.specs.Prelude.{◌≡◌, ℕ, List, Option, None, Some, get_or}
 use Rattle.httpedge.specs.Exchange.{Said}
-use Rattle.turns.specs.Connection.{IsTurn, connection_state}
+use Rattle.turns.specs.Connection.{IsTurn, TurnTerms, connection_state}
 use Rattle.turns.specs.declared.open_connection.OpenConnection.{OpenConnection}
-use Rattle.turns.specs.declared.open_connection.TurnConditions.{TurnConditions}
 use Rattle.turns.specs.declared.turn.Next.{Next}
 use Rattle.turns.specs.declared.transport.Transport.{Ghosts as Transport}
 
@@ -25,9 +24,9 @@ abbrev pub slot_state : {A T : Type 0} → List (Option (OpenConnection T)) → 
 slot_state slots slot asks = record { connection = at_slot slots slot; asks = asks }
 
 -- the connection at a slot had a turn
-pub record HasTurn {A T : Type 0} (answers : A → List ℕ → Said → A → Type 0) (known : Transport T) (conditions : TurnConditions) (old new : SlotState A T) (result : Next) : Type 0 where
+pub record HasTurn {A T : Type 0} (answers : A → List ℕ → Said → A → Type 0) (known : Transport T) (terms : TurnTerms) (old new : SlotState A T) (result : Next) : Type 0 where
   pub before : OpenConnection T
   pub after : OpenConnection T
   pub was : old.connection ≡ Some before
   pub is : new.connection ≡ Some after
-  pub turn : IsTurn answers known conditions (connection_state before old.asks) (connection_state after new.asks) result
+  pub turn : IsTurn answers known terms (connection_state before old.asks) (connection_state after new.asks) result

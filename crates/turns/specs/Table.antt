@@ -1,9 +1,9 @@
 -- The parts of a table of connections that its contract speaks of (docs/WMS.md, "HTTP").
-use Rattle.std.specs.Prelude.{◌≡◌, ◌⊎◌, ℕ, List, Option, None, Some, Bool, true, nat_lt}
+use Rattle.std.specs.Prelude.{◌≡◌, ◌⊎◌, ◌<◌, ℕ, List, length, is_some, Option, None, Some, Bool, true, ◌||◌, nat_lt}
+use Rattle.turns.specs.Connection.{TurnTerms}
 use Rattle.turns.specs.Queue.{has, joins}
 use Rattle.turns.specs.Slots.{at_slot, OthersStay}
 use Rattle.turns.specs.declared.open_connection.OpenConnection.{OpenConnection}
-use Rattle.turns.specs.declared.open_connection.TurnConditions.{TurnConditions}
 use Rattle.turns.specs.declared.served.Closed.{Closed}
 use Rattle.turns.specs.declared.times.Timeouts.{Timeouts}
 use Rattle.turns.specs.declared.table.ConnectionTable.{ConnectionTable}
@@ -20,6 +20,10 @@ ready_slots table = table.ready.order
 abbrev pub waiting_slots : {T : Type 0} → ConnectionTable T → List ℕ
 waiting_slots table = table.waiting.order
 
+-- the connection at a slot has something to do: it has a turn, or waits for room
+abbrev pub is_pending : {T : Type 0} → ConnectionTable T → ℕ → Bool
+is_pending table slot = has slot (ready_slots table) || has slot (waiting_slots table)
+
 -- how long its connections may take
 abbrev pub timeouts_of : {T : Type 0} → ConnectionTable T → Timeouts
 timeouts_of table = table.timeouts
@@ -32,9 +36,13 @@ room_of table = table.room
 abbrev pub has_room : {T : Type 0} → ConnectionTable T → Bool
 has_room table = nat_lt table.slots.owed table.room
 
--- under which conditions a turn is made: a query may be answered in it where there is room
-abbrev pub conditions_at : {T : Type 0} → ConnectionTable T → ℕ → TurnConditions
-conditions_at table now = record { may_ask = has_room table; now = now }
+-- each slot has a connection
+abbrev pub IsFull : {T : Type 0} → ConnectionTable T → Type 0
+IsFull table = (slot : ℕ) → slot < length (connections table) → is_some (at_slot (connections table) slot) ≡ true
+
+-- the terms of a turn that ended at a moment: a query may be answered in it where there is room
+abbrev pub terms_at : {T : Type 0} → ConnectionTable T → ℕ → TurnTerms
+terms_at table ended = record { may_ask = has_room table; ended = ended }
 
 -- the limits stay, and no slot that waits for room is lost: it still waits, or has a turn
 pub record KeepsWaiting {T : Type 0} (old new : ConnectionTable T) : Type 0 where

@@ -2,7 +2,7 @@
 
 ghost use Rattle.turns.specs.Pressure.{YieldsWithoutTurn};
 ghost use Rattle.turns.specs.Queue.{Fair};
-ghost use Rattle.turns.specs.Runs.{RunsAnswer, RunsServe, TurnsStay};
+ghost use Rattle.turns.specs.Runs.{KeepsUntilServed, OverdueWithoutTurn, RunsAnswer, RunsServe, TurnsStay};
 
 use crate::Transport;
 use httpedge::Asks;
@@ -31,4 +31,14 @@ pub fn turns_stay<A: Asks, T: Transport>()
 /// A connection that gives way to others has no turn, and doesn't wait for room.
 pub fn yields_without_turn<T>()
     ensures { YieldsWithoutTurn T }
+{}
+
+/// A connection that leaves because its time is over has no turn, and doesn't wait for room.
+pub fn overdue_without_turn<T>()
+    ensures { OverdueWithoutTurn T }
+{}
+
+/// A connection that has a turn is served, whatever steps are made before, unless its worker ends: it doesn't leave for another reason.
+pub fn keeps_until_served<A: Asks, T: Transport>()
+    ensures { KeepsUntilServed A.answers ⟦<T as Transport>⟧ }
 {}

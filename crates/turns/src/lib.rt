@@ -7,17 +7,18 @@
 //! Proved: `ConnectionTable::serve_next` serves the first of the queue (`first`), whose bytes and queries go on as its
 //! session does (`own`), and changes no other connection (`others`). A connection has no further turn only where a read or a
 //! write would have waited, or where no query may be answered (`IsNext`, `turns`, `waits`). Responses that are to be sent
-//! have at most `room` bytes and one response more (ghost field `bounded`). A connection leaves where its time is over
-//! (`close_overdue`). It leaves before that in two cases alone: where another comes and no slot or no descriptor is free
-//! (`close_for_slot`, `close_for_descriptor`), and where responses fill their room (`close_for_room`). A worker that ends has
-//! `close_unanswered`. A slot in the queue has its turn before any slot that had one has another (`laws::fair`).
+//! have at most `room` bytes and one response more (ghost field `bounded`). A connection leaves where its time is over, and it
+//! has no turn and doesn't wait for room (`close_overdue`). It leaves before that in two cases alone: where another comes and
+//! no slot or no descriptor is free (`close_for_slot`, `close_for_descriptor`), and where responses fill their room
+//! (`close_for_room`). A worker that ends has `close_unanswered`. What follows a query is timed by the clock as it is behind
+//! that (`read`). A slot in the queue has its turn before any slot that had one has another (`laws::fair`).
 //! Laws over every run of such calls say what each connection was sent (`laws::runs_answer`), when a slot has its turn
-//! (`laws::runs_serve`), and that none gives way that has a turn or waits for room (`laws::yields_without_turn`).
+//! (`laws::runs_serve`), and that none leaves that has a turn, unless its worker ends (`laws::keeps_until_served`).
 //!
 //! Terms: a *turn* is what is done for a connection at once. A *slot* is the number of a connection in its table. The *phase*
 //! of a connection is what it does, and its time is over at its *deadline*. Bytes are *owed* to a connection while they are
 //! to be sent to it. *Room* is the number of bytes that further responses may still have. A connection *gives way* where it
-//! is closed for another.
+//! is closed for another. It is *pending* while it has a turn or waits for room.
 #![tactic(auto)]
 
 mod buffered_session;
@@ -35,11 +36,12 @@ mod table;
 mod times;
 mod transport;
 mod turn;
+mod turn_clock;
 
 pub use buffered_session::BufferedSession;
 pub use drained::MAX_DRAINED_BYTES;
-pub use open_connection::{OpenConnection, TurnConditions};
-pub use pressure::{PATIENCE_MILLIS, Pressure};
+pub use open_connection::{OpenConnection, TurnConditions, TurnEnd};
+pub use pressure::{LONG_WAIT_MILLIS, PATIENCE_MILLIS, Pressure};
 pub use read_buffer::{READ_BYTES, ReadBuffer};
 pub use ready_queue::ReadyQueue;
 pub use served::{Closed, Served};
@@ -47,3 +49,4 @@ pub use table::ConnectionTable;
 pub use times::{Phase, Timeouts};
 pub use transport::{Answered, ReadOutcome, Transport, WriteOutcome};
 pub use turn::{Next, TurnResult, serve_turn};
+pub use turn_clock::TurnClock;

@@ -1,10 +1,11 @@
-ghost use Rattle.std.specs.Prelude.{◌≡◌, ◌≤◌, ◌<◌, ◌^◌, [], IfOk, IfErr, false};
+ghost use Rattle.std.specs.Prelude.{◌≡◌, ◌≤◌, ◌<◌, ◌^◌, ℕ, [], IfOk, IfErr, false, max, true};
 ghost use Rattle.httpedge.specs.Session.{new_session};
 ghost use Rattle.turns.specs.declared.times.Phase.TheVariants.{Opened};
 ghost use Rattle.turns.specs.Drain.{brought, next_drained, phase_drained};
 
 use crate::drained::MAX_DRAINED_BYTES;
-use crate::{BufferedSession, Next, Phase, ReadOutcome, Transport, TurnResult, serve_turn};
+use crate::turn_clock::end_of;
+use crate::{BufferedSession, Next, Phase, ReadOutcome, Transport, TurnClock, serve_turn};
 use httpedge::Asks;
 use std::alloc::Global;
 
@@ -26,8 +27,32 @@ pub struct OpenConnection<T> {
 pub struct TurnConditions {
     /// Whether a query may be answered in it.
     pub may_ask: bool,
-    /// The milliseconds of the worker's clock.
+    /// When it begins, in milliseconds of the worker's clock.
     pub now: u64,
+}
+
+/// What a turn left.
+#[derive(Clone, Copy, Debug, PartialEq, Eq)]
+pub struct TurnEnd {
+    /// What the connection waits for.
+    pub next: Next,
+    /// Whether a query may have been asked: a head was answered, or the end of the client's bytes.
+    pub asked: bool,
+    /// When it ended, in milliseconds of the worker's clock: later than it began only where a query may have been asked.
+    pub ended: u64,
+}
+
+impl TurnEnd {
+    // That of a turn at this moment in which no query was asked.
+    fn without_query(next: Next, now: u64) -> Self
+        ensures { result ≡ record { next = next; asked = false; ended = now } }
+    {
+        TurnEnd {
+            next,
+            asked: false,
+            ended: now,
+        }
+    }
 }
 
 // How many bytes a read brought.
@@ -63,7 +88,7 @@ fn phase_drained(next: Next, phase: Phase) -> Phase
 }
 
 impl<T: Transport> OpenConnection<T> {
-    ghost use Rattle.turns.specs.Connection.{connection_state, owed_by, IsServed, IsDrained, IsTurn};
+    ghost use Rattle.turns.specs.Connection.{connection_state, ended_at, owed_by, IsServed, IsDrained, IsTurn};
 
     /// A connection that is opened now. Where its memory is refused the transport is returned.
     pub fn new(alloc: Global, transport: T, now: u64) -> Result<Self, T>
@@ -95,11 +120,19 @@ impl<T: Transport> OpenConnection<T> {
         first.len() as u128 + second.len() as u128
     }
 
-    // A turn before the last answer was sent. After that answer the sending side is closed, and further turns drain.
-    fn serve<A: Asks>(&mut self, asks: &mut A, conditions: TurnConditions) -> TurnResult
-        ensures served { IsServed A.answers ⟦<T as Transport>⟧ conditions (connection_state self.old asks.old)
-            (connection_state self.new asks.new) result.next }
-        ensures unasked { result.asked ≡ false → asks.new ≡ asks.old }
+    // A turn before the last answer was sent. After that answer the sending side is closed, and further turns drain. What the
+    // connection does from now on begins when the turn ended.
+    fn serve<A: Asks, C: TurnClock>(
+        &mut self,
+        asks: &mut A,
+        conditions: TurnConditions,
+        clock: &C,
+    ) -> TurnEnd
+        ensures served { IsServed A.answers ⟦<T as Transport>⟧ (ended_at conditions result.ended)
+            (connection_state self.old asks.old) (connection_state self.new asks.new) result.next }
+        ensures later { conditions.now ≤ result.ended }
+        ensures read { result.asked ≡ true → (moment : ℕ) × C.shows clock.now moment × (result.ended ≡ max conditions.now moment) }
+        ensures unasked { result.asked ≡ false → (result.ended ≡ conditions.now) × (asks.new ≡ asks.old) }
         ensures no_more { conditions.may_ask ≡ false → (owed_by self.new ≤ owed_by self.old) × (asks.new ≡ asks.old) }
     {
         let turned = serve_turn(
@@ -108,15 +141,23 @@ impl<T: Transport> OpenConnection<T> {
             asks,
             conditions.may_ask,
         );
+        let asked = turned.asked;
+        let ended = end_of(clock, asked, conditions.now);
         let owes = self.owed() > 0;
-        self.phase = self.phase.after(turned, owes, conditions.now);
-        if turned.next != Next::Done {
-            return turned;
-        }
-        self.transport.shut_down();
-        TurnResult {
-            next: Next::Turn,
-            ..turned
+        self.phase = self.phase.after(turned, owes, ended);
+        if turned.next == Next::Done {
+            self.transport.shut_down();
+            TurnEnd {
+                next: Next::Turn,
+                asked,
+                ended,
+            }
+        } else {
+            TurnEnd {
+                next: turned.next,
+                asked,
+                ended,
+            }
         }
     }
 
@@ -133,16 +174,24 @@ impl<T: Transport> OpenConnection<T> {
         next
     }
 
-    /// The connection's turn.
-    pub fn turn<A: Asks>(&mut self, asks: &mut A, conditions: TurnConditions) -> TurnResult
-        ensures turn { IsTurn A.answers ⟦<T as Transport>⟧ conditions (connection_state self.old asks.old)
-            (connection_state self.new asks.new) result.next }
-        ensures unasked { result.asked ≡ false → asks.new ≡ asks.old }
+    /// The connection's turn. Where a query may have been asked in it, the clock is read behind that.
+    pub fn turn<A: Asks, C: TurnClock>(
+        &mut self,
+        asks: &mut A,
+        conditions: TurnConditions,
+        clock: &C,
+    ) -> TurnEnd
+        ensures turn { IsTurn A.answers ⟦<T as Transport>⟧ (ended_at conditions result.ended)
+            (connection_state self.old asks.old) (connection_state self.new asks.new) result.next }
+        ensures later { conditions.now ≤ result.ended }
+        ensures read { result.asked ≡ true → (moment : ℕ) × C.shows clock.now moment × (result.ended ≡ max conditions.now moment) }
+        ensures unasked { result.asked ≡ false → (result.ended ≡ conditions.now) × (asks.new ≡ asks.old) }
     {
+        let now = conditions.now;
         match self.phase {
-            Phase::Over => TurnResult::without_query(Next::Failed),
-            Phase::Drain { .. } => TurnResult::without_query(self.drain()),
-            _ => self.serve(asks, conditions),
+            Phase::Over => TurnEnd::without_query(Next::Failed, now),
+            Phase::Drain { .. } => TurnEnd::without_query(self.drain(), now),
+            _ => self.serve(asks, conditions, clock),
         }
     }
 }

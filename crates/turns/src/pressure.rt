@@ -1,13 +1,20 @@
 ghost use Rattle.std.specs.Prelude.{◌≡◌};
-ghost use Rattle.turns.specs.Pressure.{answer_rank, first_of, head_rank, rank};
+ghost use Rattle.turns.specs.Pressure.{answer_rank, first_of, head_rank, idle_rank, rank};
 
 use crate::Phase;
 
-/// For how many milliseconds a head or an answer goes, at least, until its connection may give way.
+/// For how many milliseconds a connection does the same, at least, until it may give way: it was opened or is between requests, sends a
+/// head, or takes an answer.
 pub const PATIENCE_MILLIS: u64 = 1_000;
 
-// The rank of the first head, behind each connection that isn't amid one.
+/// After how many milliseconds a connection that was opened or is between requests gives way before each that sends a head.
+pub const LONG_WAIT_MILLIS: u64 = 10_000;
+
+// The rank of the first head, behind each connection that has waited for long.
 const FIRST_HEAD_RANK: u128 = 1 << 64;
+
+// The rank of the first connection that has waited for less, behind each head.
+const FIRST_SHORT_WAIT_RANK: u128 = 1 << 65;
 
 /// Why connections are closed before their time is over.
 #[derive(Clone, Copy, Debug)]
@@ -24,8 +31,8 @@ impl Pressure {
         ensures { result ≡ rank self phase }
     {
         match (self, phase) {
-            (Pressure::Slot { .. }, Phase::Opened { since } | Phase::Idle { since }) => {
-                Some(u128::from(since))
+            (Pressure::Slot { now }, Phase::Opened { since } | Phase::Idle { since }) => {
+                idle_rank(now.saturating_sub(since), since)
             }
             (Pressure::Slot { now }, Phase::Head { since, moved }) => {
                 head_rank(now.saturating_sub(since), moved)
@@ -38,6 +45,19 @@ impl Pressure {
             ),
             _ => None,
         }
+    }
+}
+
+// The rank of a connection that was opened, or is between requests, since this moment, which is so long ago.
+fn idle_rank(passed: u64, since: u64) -> Option<u128>
+    ensures { result ≡ idle_rank passed since }
+{
+    if passed < PATIENCE_MILLIS {
+        None
+    } else if passed < LONG_WAIT_MILLIS {
+        Some(FIRST_SHORT_WAIT_RANK + u128::from(since))
+    } else {
+        Some(u128::from(since))
     }
 }
 

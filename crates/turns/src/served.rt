@@ -2,7 +2,7 @@
 
 ghost use Rattle.std.specs.Prelude.{◌≡◌, option_map, unwrap_or, false};
 
-use crate::{Next, OpenConnection, TurnResult};
+use crate::{Next, OpenConnection, TurnEnd};
 
 /// A turn.
 #[derive(Clone, Copy, Debug)]
@@ -13,25 +13,32 @@ pub struct Served {
     pub next: Option<Next>,
     /// Whether a query may have been asked.
     pub asked: bool,
+    /// When it ended, in milliseconds of the worker's clock: later than it began only where a query may have been asked.
+    pub ended: u64,
 }
 
-// What a connection waits for after its turn, if there was one.
-pub(crate) fn next_of(turned: Option<TurnResult>) -> Option<Next>
-    ensures { result ≡ option_map (λ t. t.next) turned }
-{
-    match turned {
-        Some(turned) => Some(turned.next),
-        None => None,
-    }
-}
-
-// Whether a query may have been asked in a turn, if there was one.
-pub(crate) fn asked_in(turned: Option<TurnResult>) -> bool
-    ensures { result ≡ unwrap_or (option_map (λ t. t.asked) turned) false }
-{
-    match turned {
-        Some(turned) => turned.asked,
-        None => false,
+impl Served {
+    // What the turn at a slot left that began at a moment; or there was no connection.
+    pub(crate) fn of(slot: usize, turned: Option<TurnEnd>, began: u64) -> Self
+        ensures slot { result.slot ≡ slot }
+        ensures next { result.next ≡ option_map (λ t. t.next) turned }
+        ensures asked { result.asked ≡ unwrap_or (option_map (λ t. t.asked) turned) false }
+        ensures ended { result.ended ≡ unwrap_or (option_map (λ t. t.ended) turned) began }
+    {
+        match turned {
+            Some(turned) => Served {
+                slot,
+                next: Some(turned.next),
+                asked: turned.asked,
+                ended: turned.ended,
+            },
+            None => Served {
+                slot,
+                next: None,
+                asked: false,
+                ended: began,
+            },
+        }
     }
 }
 

@@ -1,10 +1,10 @@
-ghost use Rattle.std.specs.Prelude.{◌≡◌, ◌⊎◌, ◌≤◌, ◌<◌, ◌+◌, ◌^◌, ℕ, None, Some, length, IfOk, IfSome, IfNone, MatchOption, IsSomeAnd, is_some, is_none, true, false};
+ghost use Rattle.std.specs.Prelude.{◌≡◌, ◌⊎◌, ◌≤◌, ◌<◌, ◌+◌, ◌^◌, ℕ, None, Some, length, IfOk, IfSome, IfNone, MatchOption, IsSomeAnd, is_some, is_none, max, true, false};
 ghost use Rattle.std.specs.List.{list_all};
-ghost use Rattle.turns.specs.Connection.{IsTurn, connection_state, owed_by};
+ghost use Rattle.turns.specs.Connection.{IsTurn, connection_state, ended_at, owed_by};
 ghost use Rattle.turns.specs.Owed.{owed_at, owed_in_all};
 ghost use Rattle.turns.specs.Slots.{at_slot, slot_state, OthersStay, HasTurn};
 
-use crate::{OpenConnection, Phase, Transport, TurnConditions, TurnResult};
+use crate::{OpenConnection, Phase, Transport, TurnClock, TurnConditions, TurnEnd};
 use httpedge::Asks;
 use std::alloc::{AllocError, Global};
 
@@ -18,20 +18,23 @@ pub struct Slots<T: Drop> {
 }
 
 // A connection has its turn. The result has the bytes that are to be sent to it before and after.
-fn turn_of<T: Transport, A: Asks>(
+fn turn_of<T: Transport, A: Asks, C: TurnClock>(
     connection: &mut OpenConnection<T>,
     asks: &mut A,
     conditions: TurnConditions,
-) -> (TurnResult, u128, u128)
-    ensures turn { IsTurn A.answers ⟦<T as Transport>⟧ conditions (connection_state connection.old asks.old)
-        (connection_state connection.new asks.new) result.0.next }
-    ensures unasked { result.0.asked ≡ false → asks.new ≡ asks.old }
+    clock: &C,
+) -> (TurnEnd, u128, u128)
+    ensures turn { IsTurn A.answers ⟦<T as Transport>⟧ (ended_at conditions result.0.ended)
+        (connection_state connection.old asks.old) (connection_state connection.new asks.new) result.0.next }
+    ensures later { conditions.now ≤ result.0.ended }
+    ensures read { result.0.asked ≡ true → (moment : ℕ) × C.shows clock.now moment × (result.0.ended ≡ max conditions.now moment) }
+    ensures unasked { result.0.asked ≡ false → (result.0.ended ≡ conditions.now) × (asks.new ≡ asks.old) }
     ensures before { result.1 ≡ owed_by connection.old }
     ensures after { result.2 ≡ owed_by connection.new }
     ensures small { result.2 < 2 ^ 66 }
 {
     let before = connection.owed();
-    let turned = connection.turn(asks, conditions);
+    let turned = connection.turn(asks, conditions, clock);
     (turned, before, connection.owed())
 }
 
@@ -51,12 +54,13 @@ impl<T: Transport + Drop> Slots<T> {
     }
 
     /// The connection at a slot has its turn.
-    pub fn turn<A: Asks>(
+    pub fn turn<A: Asks, C: TurnClock>(
         &mut self,
         slot: usize,
         asks: &mut A,
         conditions: TurnConditions,
-    ) -> Option<TurnResult>
+        clock: &C,
+    ) -> Option<TurnEnd>
         requires counted { self.old.owed ≡ owed_in_all self.old.items.items }
         requires small { self.old.owed < 2 ^ 67 }
         ensures counted { self.new.owed ≡ owed_in_all self.new.items.items }
@@ -68,9 +72,14 @@ impl<T: Transport + Drop> Slots<T> {
         ensures nobody { IfNone result ((self.new.items.items ≡ self.old.items.items) × (asks.new ≡ asks.old)) }
         ensures empty { IfNone result (at_slot self.old.items.items slot ≡ None) }
         ensures own { IfSome result
-            (λ turned. HasTurn A.answers ⟦<T as Transport>⟧ conditions (slot_state self.old.items.items slot asks.old)
-            (slot_state self.new.items.items slot asks.new) turned.next) }
-        ensures unasked { IfSome result (λ turned. turned.asked ≡ false → asks.new ≡ asks.old) }
+            (λ turned. HasTurn A.answers ⟦<T as Transport>⟧ (ended_at conditions turned.ended)
+            (slot_state self.old.items.items slot asks.old) (slot_state self.new.items.items slot asks.new) turned.next) }
+        ensures later { IfSome result (λ turned. conditions.now ≤ turned.ended) }
+        ensures read { IfSome result
+            (λ turned. turned.asked ≡ true
+            → (moment : ℕ) × C.shows clock.now moment × (turned.ended ≡ max conditions.now moment)) }
+        ensures unasked { IfSome result
+            (λ turned. turned.asked ≡ false → (turned.ended ≡ conditions.now) × (asks.new ≡ asks.old)) }
     {
         if slot >= self.items.len() {
             return None;
@@ -78,7 +87,7 @@ impl<T: Transport + Drop> Slots<T> {
         let Some(connection) = &mut self.items[slot] else {
             return None;
         };
-        let (turned, before, after) = turn_of(connection, asks, conditions);
+        let (turned, before, after) = turn_of(connection, asks, conditions, clock);
         self.owed = self.owed - before + after;
         Some(turned)
     }

@@ -1,13 +1,13 @@
-ghost use Rattle.std.specs.Prelude.{◌≡◌, ◌≤◌, ◌<◌, ◌+◌, ◌^◌, [], ◌∷◌, length, true, false};
+ghost use Rattle.std.specs.Prelude.{◌≡◌, ◌≤◌, ◌<◌, ◌+◌, ◌^◌, [], ◌∷◌, length, max, true, false};
 ghost use Rattle.turns.specs.Owed.{owed_at, owed_in_all};
 ghost use Rattle.turns.specs.Slots.{at_slot};
 
 use crate::pressure::first_of;
 use crate::queues::{admit, settle};
-use crate::served::{asked_in, next_of};
 use crate::slots::Slots;
 use crate::{
-    Closed, OpenConnection, Pressure, ReadyQueue, Served, Timeouts, Transport, TurnConditions,
+    Closed, OpenConnection, Pressure, ReadyQueue, Served, Timeouts, Transport, TurnClock,
+    TurnConditions,
 };
 use httpedge::Asks;
 use std::alloc::{AllocError, Global};
@@ -49,7 +49,7 @@ impl<T: Transport + Drop> ConnectionTable<T> {
     ghost use Rattle.turns.specs.Runs.{HasRun, IsTurnOf};
     ghost use Rattle.turns.specs.Settling.{IsSettled};
     ghost use Rattle.turns.specs.Slots.{slot_state, OthersStay, HasTurn};
-    ghost use Rattle.turns.specs.Table.{connections, ready_slots, waiting_slots, timeouts_of, room_of, has_room, conditions_at, ClosedOrStayed, Goes, KeepsWaiting, LeftOrStayed};
+    ghost use Rattle.turns.specs.Table.{connections, ready_slots, waiting_slots, timeouts_of, room_of, has_room, is_pending, terms_at, ClosedOrStayed, Goes, IsFull, KeepsWaiting, LeftOrStayed};
     ghost use Rattle.turns.specs.Times.{deadline, is_unanswered};
     ghost use Rattle.turns.specs.declared.turn.Next.TheVariants.{Turn, Room};
 
@@ -94,8 +94,7 @@ impl<T: Transport + Drop> ConnectionTable<T> {
     pub fn free_slot(&self) -> Option<usize>
         ensures known { IfSome result (λ slot. slot < length (connections self.now)) }
         ensures free { IfSome result (λ slot. at_slot (connections self.now) slot ≡ None) }
-        ensures full { IfNone result
-            ((slot : ℕ) → slot < length (connections self.now) → is_some (at_slot (connections self.now) slot) ≡ true) }
+        ensures full { IfNone result (IsFull self.now) }
     {
         self.slots.free()
     }
@@ -130,8 +129,14 @@ impl<T: Transport + Drop> ConnectionTable<T> {
         !self.ready.is_empty()
     }
 
-    /// Makes the next turn: that of the slot that has waited longest. There is none where no slot has a turn.
-    pub fn serve_next<A: Asks>(&mut self, asks: &mut A, now: u64) -> Option<Served>
+    /// Makes the next turn, which begins now: that of the slot that has waited longest. There is none where no slot has a turn. Where a
+    /// query may have been asked in it, the clock is read behind that: the connection does what follows since then.
+    pub fn serve_next<A: Asks, C: TurnClock>(
+        &mut self,
+        asks: &mut A,
+        now: u64,
+        clock: &C,
+    ) -> Option<Served>
         ensures first { MatchOption result (ready_slots self.old ≡ [])
             (λ served. (rest : List ℕ) × (slots : List ℕ)
             × (ready_slots self.old ≡ served.slot ∷ rest) × (ready_slots self.new ≡ joins rest slots)) }
@@ -141,7 +146,7 @@ impl<T: Transport + Drop> ConnectionTable<T> {
         ensures empty { IfSome result (λ served. IfNone served.next (at_slot (connections self.old) served.slot ≡ None)) }
         ensures own { IfSome result
             (λ served. IfSome served.next
-            (λ next. HasTurn A.answers ⟦<T as Transport>⟧ (conditions_at self.old now)
+            (λ next. HasTurn A.answers ⟦<T as Transport>⟧ (terms_at self.old served.ended)
             (slot_state (connections self.old) served.slot asks.old)
             (slot_state (connections self.new) served.slot asks.new) next)) }
         ensures others { IfSome result (λ served. OthersStay served.slot (connections self.old) (connections self.new)) }
@@ -149,9 +154,13 @@ impl<T: Transport + Drop> ConnectionTable<T> {
             (record { table = self.new; asks = asks.new }) }
         ensures step { IfSome result
             (λ served. IsTurnOf A.answers ⟦<T as Transport>⟧ (record { table = self.old; asks = asks.old })
-            (record { slot = served.slot; next = served.next; now = now }) (record { table = self.new; asks = asks.new })) }
+            (record { slot = served.slot; next = served.next; asked = served.asked; now = now; ended = served.ended })
+            (record { table = self.new; asks = asks.new })) }
         ensures once { IfSome result (λ _. (queries : List QueryOutcome) × HasAsked A.answers asks.old queries asks.new) }
-        ensures unasked { IfSome result (λ served. served.asked ≡ false → asks.new ≡ asks.old) }
+        ensures unasked { IfSome result (λ served. served.asked ≡ false → (served.ended ≡ now) × (asks.new ≡ asks.old)) }
+        ensures read { IfSome result
+            (λ served. served.asked ≡ true
+            → (moment : ℕ) × C.shows clock.now moment × (served.ended ≡ max now moment)) }
         ensures turns { IfSome result (λ served. served.next ≡ Some Turn → has served.slot (ready_slots self.new) ≡ true) }
         ensures waits { IfSome result
             (λ served. served.next ≡ Some Room
@@ -164,25 +173,29 @@ impl<T: Transport + Drop> ConnectionTable<T> {
         let slot = self.ready.next()?;
         let may_ask = self.slots.owed < self.room as u128;
         let conditions = TurnConditions { may_ask, now };
-        let turned = self.slots.turn(slot, asks, conditions);
-        let next = next_of(turned);
-        if may_ask && next.is_some() {
+        let turned = self.slots.turn(slot, asks, conditions, clock);
+        let served = Served::of(slot, turned, now);
+        if may_ask && served.next.is_some() {
             self.last_asked = slot;
         }
         let has_room = self.slots.owed < self.room as u128;
-        settle(&mut self.ready, &mut self.waiting, slot, next);
+        settle(&mut self.ready, &mut self.waiting, slot, served.next);
         admit(&mut self.ready, &mut self.waiting, has_room);
-        Some(Served {
-            slot,
-            next,
-            asked: asked_in(turned),
-        })
+        Some(served)
+    }
+
+    // Whether the connection at a slot has something to do: it has a turn, or waits for room.
+    fn is_pending(&self, slot: usize) -> bool
+        ensures { result ≡ is_pending self.now slot }
+    {
+        self.ready.has(slot) || self.waiting.has(slot)
     }
 
     // The connection at a slot leaves it.
     fn close(&mut self, slot: usize) -> Option<OpenConnection<T>>
         ensures taken { result ≡ at_slot (connections self.old) slot }
         ensures left { LeftOrStayed slot result self.old self.new }
+        ensures len { length (connections self.new) ≡ length (connections self.old) }
         ensures goes { Goes self.old self.new }
     {
         let connection = self.slots.take(slot);
@@ -192,17 +205,18 @@ impl<T: Transport + Drop> ConnectionTable<T> {
     }
 
     /// The connection at a slot leaves it, if its time is over: where it has failed, where its client has sent all, and at
-    /// the deadline of its phase.
+    /// the deadline of its phase. It stays while it has a turn or waits for room, as what it waits for has come.
     pub fn close_overdue(&mut self, slot: usize, now: u64) -> Option<OpenConnection<T>>
         ensures overdue { IfSome result (λ connection. deadline (timeouts_of self.old) connection.phase ≤ now) }
+        ensures due { IfSome result (λ _. is_pending self.old slot ≡ false) }
         ensures left { LeftOrStayed slot result self.old self.new }
         ensures in_time { IfNone result
-            (IfSome (at_slot (connections self.old) slot)
+            (is_pending self.old slot ≡ false → IfSome (at_slot (connections self.old) slot)
             (λ connection. now < deadline (timeouts_of self.old) connection.phase)) }
         ensures goes { Goes self.old self.new }
     {
         let phase = self.slots.phase(slot)?;
-        if now < phase.deadline(&self.timeouts) {
+        if now < phase.deadline(&self.timeouts) || self.is_pending(slot) {
             return None;
         }
         self.close(slot)
@@ -227,7 +241,7 @@ impl<T: Transport + Drop> ConnectionTable<T> {
     fn rank_at(&self, slot: usize, pressure: Pressure) -> Option<u128>
         ensures { result ≡ rank_at pressure self.now slot }
     {
-        if self.ready.has(slot) || self.waiting.has(slot) {
+        if self.is_pending(slot) {
             return None;
         }
         match self.slots.phase(slot) {
@@ -255,6 +269,7 @@ impl<T: Transport + Drop> ConnectionTable<T> {
     fn give_way(&mut self, pressure: Pressure) -> Option<Closed<T>>
         ensures first { IfSome result (λ closed. IsFirst pressure self.old closed.slot) }
         ensures left { ClosedOrStayed result self.old self.new }
+        ensures len { length (connections self.new) ≡ length (connections self.old) }
         ensures none { IfNone result (NoneMay pressure self.old) }
         ensures goes { Goes self.old self.new }
     {
@@ -263,14 +278,15 @@ impl<T: Transport + Drop> ConnectionTable<T> {
         Some(Closed { slot, connection })
     }
 
-    /// Where all slots are taken, of the connections without a turn that were just opened or are between requests the one leaves
-    /// that has been so for longest. Where there is none, of those that are amid a head of over a second the one leaves whose last
-    /// bytes came longest ago, if there is one.
+    /// Where all slots are taken, a connection without a turn leaves, if one may. Those that were opened, or have been between requests,
+    /// for ten seconds or more come first, the longest first; then those whose head began a second ago or more, by when their last bytes
+    /// came; then those that were opened, or have been between requests, for a second or more.
     pub fn close_for_slot(&mut self, now: u64) -> Option<Closed<T>>
-        ensures full { IfSome result
-            (λ _. (slot : ℕ) → slot < length (connections self.old) → is_some (at_slot (connections self.old) slot) ≡ true) }
+        ensures full { IfSome result (λ _. IsFull self.old) }
         ensures first { IfSome result (λ closed. IsFirst (pressure.Slot now) self.old closed.slot) }
         ensures left { ClosedOrStayed result self.old self.new }
+        ensures known { IfSome result (λ closed. closed.slot < length (connections self.new)) }
+        ensures none { IfNone result (IsFull self.old → NoneMay (pressure.Slot now) self.old) }
         ensures goes { Goes self.old self.new }
     {
         if self.free_slot().is_some() {

@@ -40,8 +40,8 @@ pub struct TurnResult {
 }
 
 impl TurnResult {
-    /// That of a turn in which nothing was sent and no query was asked.
-    pub(crate) fn without_query(next: Next) -> Self
+    // That of a turn in which nothing was sent and no query was asked.
+    fn without_query(next: Next) -> Self
         ensures { result ≡ record { next = next; sent = 0; asked = false } }
     {
         TurnResult {

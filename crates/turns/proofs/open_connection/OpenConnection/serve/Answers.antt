@@ -3,8 +3,8 @@ use Rattle.turns.proofs.Advancing.{then-nothing}
 use Rattle.turns.specs.declared.turn.Next.TheVariants as next
 use Rattle.turns.proofs.open_connection.OpenConnection.serve.Goals as goal
 
-pub returns-clause-served : goal.returns-clause-served
-returns-clause-served g c =
+pub returns-then-eq-clause-served : goal.returns-then-eq-clause-served
+returns-then-eq-clause-served g c =
     let turned = c.serve_turn-turned in
     let done : turned.result.next ≡ next.Done = search rules in
     record {

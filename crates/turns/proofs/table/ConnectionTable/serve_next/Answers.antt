@@ -1,30 +1,34 @@
-use Rattle.std.proofs.Common.{◌≡◌, rules}
+use Rattle.std.proofs.Common.{rules}
 use Rattle.turns.proofs.Order.{served-joins, joins-then}
-use Rattle.turns.proofs.Runs.{none-by, own-by, run-step, turned-asks}
+use Rattle.turns.proofs.Runs.{ends-later, none-by, own-by, run-step, turned-asks, unasked-by}
 use Rattle.turns.specs.Runs.{Serves}
+use Rattle.turns.specs.Table.{terms_at}
 use Rattle.turns.proofs.table.ConnectionTable.serve_next.Goals as goal
 
 pub returns-clause-first : goal.returns-clause-first
 returns-clause-first g c =
-    served-joins c.args.self.now.ready.order c.next.new.self.order c.admit.new.ready.order c.in_ok-slot.slot c.in_ok-slot.ensures.first
-    (joins-then c.next.new.self.order c.settle.new.ready.order c.admit.new.ready.order c.settle.ensures.joins c.admit.ensures.joins)
+    rw c.of-served.ensures.slot (served-joins c.args.self.now.ready.order c.next.new.self.order c.admit.new.ready.order c.in_ok-slot.slot c.in_ok-slot.ensures.first
+    (joins-then c.next.new.self.order c.settle.new.ready.order c.admit.new.ready.order c.settle.ensures.joins c.admit.ensures.joins))
 
 pub returns-clause-step : goal.returns-clause-step
 returns-clause-step g c =
     let (rest, slots, first, later) = returns-clause-first g c in
     let turned = c.turn-turned in
-    let next : c.next_of-next.result ≡ _ = c.next_of-next.ensures in
+    let served = c.of-served.ensures in
+    let slot = served.slot in
     record {
       rest = rest;
       slots = slots;
       first = first;
       later = later;
-      own = rw next (own-by g.A.Asks.answers g.T.Transport _ _ _ turned.result turned.ensures.own);
-      nobody = rw next (none-by _ turned.result turned.ensures.nobody);
-      empty = rw next (none-by _ turned.result turned.ensures.empty);
-      others = turned.ensures.others;
-      turns = search rules;
-      waits = search rules;
+      own = rw (slot, served.next, served.ended) (own-by g.A.Asks.answers g.T.Transport (λ ended. terms_at c.args.self.now ended) c.args.now _ _ turned.result turned.ensures.own);
+      nobody = rw served.next (none-by _ turned.result turned.ensures.nobody);
+      empty = rw (slot, served.next) (none-by _ turned.result turned.ensures.empty);
+      others = rw slot turned.ensures.others;
+      ends = rw served.ended (ends-later c.args.now turned.result turned.ensures.later);
+      unasked = rw (served.asked, served.ended) (unasked-by c.args.now _ turned.result turned.ensures.unasked (search rules));
+      turns = rw slot (search rules);
+      waits = rw slot (search rules);
       keeps = search rules;
     }
 
@@ -35,3 +39,6 @@ returns-clause-once g c =
 pub returns-clause-run : goal.returns-clause-run
 returns-clause-run g c =
     run-step g.A.Asks.answers g.T.Transport (Serves _) _ _ (returns-clause-step g c)
+
+pub returns-clause-unasked : goal.returns-clause-unasked
+returns-clause-unasked g c = (returns-clause-step g c).unasked
