@@ -33,11 +33,11 @@ def style_of(**given):
 
 class Painting(unittest.TestCase):
     def setUp(self):
-        self.report = Report()
+        self.report, self.marks = Report(), None
 
     def of(self, kind, *given):
         map = SimpleNamespace(imagecolor=colour(200, 210, 220))
-        made = styles.Styles(map, None, kind, None, self.report, Node(("m.map", 7)))
+        made = styles.Styles(map, None, kind, self.marks, self.report, Node(("m.map", 7)))
         return made.of(0, SimpleNamespace(numstyles=len(given), getStyle=lambda at: given[at]), 0)
 
     def said(self):
@@ -64,6 +64,25 @@ class Painting(unittest.TestCase):
         style = style_of(color=colour(10, 20, 30), outlinecolor=colour(40, 50, 60), width=3)
         self.assertEqual(self.of("POLYGON", style), [["COLOR 10 20 30", "OUTLINECOLOR 40 50 60", "WIDTH 3"]])
         self.assertEqual(self.of("POLYGON", style_of()), [])
+
+    def test_a_pattern_is_mixed_over_the_fill_below_it_and_an_outline_without_one(self):
+        def in_place_of(style, below):
+            asked.append(below)
+            return ("1 2 3", None) if below else (None, "4 5 6")
+
+        asked, self.marks = [], SimpleNamespace(in_place_of=in_place_of)
+        hatch = style_of(color=colour(10, 20, 30), symbol=4, size=8, width=2)
+        self.assertEqual(self.of("POLYGON", style_of(color=colour(100, 120, 140)), hatch, hatch), [["COLOR 100 120 140"], ["COLOR 1 2 3"], ["COLOR 1 2 3"]])
+        # the ground below the second is what the first has painted
+        self.assertEqual(asked, ["100 120 140", "1 2 3"])
+        self.assertEqual(self.of("POLYGON", hatch), [["OUTLINECOLOR 4 5 6", "WIDTH 1"]])
+        own = style_of(color=colour(10, 20, 30), outlinecolor=colour(70, 80, 90), symbol=4, size=8, width=2)
+        self.assertEqual(self.of("POLYGON", own), [["OUTLINECOLOR 70 80 90", "WIDTH 1"]])
+        self.assertEqual(self.said(), [
+            "left out: SYMBOL of a polygon: it is filled in the mean colour 1 2 3",
+            "left out: SYMBOL of a polygon: it is an outline alone, in the colour 4 5 6, as the ground shows through",
+            "left out: SYMBOL of a polygon: it is an outline alone, in the colour 70 80 90, as the ground shows through",
+        ])
 
     def test_a_thin_outline_has_a_mixed_colour_over_what_lies_below(self):
         # 0.25 of 40 50 60 with 0.75 of 10 20 30, of 100 120 140 and of the ground, 200 210 220

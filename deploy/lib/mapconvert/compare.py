@@ -128,19 +128,33 @@ def each_style(map):
 
 
 def without_patterns(map):
-    """Draws the patterns of polygons in their mean colours."""
-    from mapconvert import marks
+    """Draws in place of the patterns of polygons what convert writes for them."""
+    from mapconvert import marks, styles
 
-    drawn = marks.Marks(map.source, ".")
-    for layer, style in each_style(map):
-        if layer.type == mapscript.MS_LAYER_POLYGON and style.symbol:
-            red, green, blue = map_colour(drawn.mean_colour(style))
-            style.symbol = 0
-            style.color.setRGB(red, green, blue)
+    drawn, last, below = marks.Marks(map.source, "."), None, None
+    for kind, style in styles_of_polygons(map):
+        below, last = below if kind == last else None, kind
+        if style.symbol:
+            fill, outline = drawn.in_place_of(style, below)
+            style.symbol, style.width = 0, 1
+            set_colour(style.color, fill)
+            set_colour(style.outlinecolor, styles.colour_of(style.outlinecolor) or outline if not fill else None)
+        below = styles.colour_of(style.color) or below
 
 
-def map_colour(text):
-    return map(int, text.split())
+def set_colour(colour, text):
+    """Sets a colour as a mapfile has it; nothing is none."""
+    colour.setRGB(*(map(int, text.split()) if text else (-1, -1, -1)))
+
+
+def styles_of_polygons(map):
+    """The styles of layers of polygons, each with the numbers of its layer and its class."""
+    for number in range(map.numlayers):
+        layer = map.getLayer(number)
+        for at in range(layer.numclasses) if layer.type == mapscript.MS_LAYER_POLYGON else ():
+            kind = layer.getClass(at)
+            for one in range(kind.numstyles):
+                yield (number, at), kind.getStyle(one)
 
 
 def without_opacity(map):

@@ -7,8 +7,12 @@ import subprocess
 import mapscript
 from PIL import Image
 
+from mapconvert.styles import colour_of
+
 LARGEST = 256
 NOTHING = (255, 0, 255)
+# A pattern whose mean opacity, of 255, is this is a fill; its edges are smoothed.
+COVERS = 242
 PLAIN_FONTS = ("/usr/share/fonts/truetype/dejavu/DejaVuSans.ttf",)
 HERE = os.path.dirname(os.path.realpath(__file__))
 
@@ -51,11 +55,17 @@ class Marks:
         self.map.removeLayer(layer.index)
         return picture
 
-    def mean_colour(self, style):
-        """The colour that a pattern has from afar, over white."""
-        picture = Image.new("RGBA", (64, 64), (255, 255, 255, 255))
+    def mean_colour(self, style, ground):
+        """The colour that a pattern has from afar over a ground, which is a colour as a mapfile has it."""
+        picture = Image.new("RGBA", (64, 64), (*map(int, ground.split()), 255))
         picture.alpha_composite(self.draw(style, 64, True))
         return "%d %d %d" % picture.convert("RGB").resize((1, 1), Image.Resampling.BOX).getpixel((0, 0))
+
+    def in_place_of(self, style, below):
+        """What stands for a pattern: a fill over the fill that lies below it, or where none does an outline, so that the ground is seen."""
+        *colour, alpha = self.draw(style, 64, True).resize((1, 1), Image.Resampling.BOX).getpixel((0, 0))
+        own = colour_of(style.color) or "%d %d %d" % tuple(colour)
+        return (self.mean_colour(style, below or own), None) if below or alpha >= COVERS else (None, own)
 
     def is_translucent(self, style):
         """Whether most of a mark is neither opaque nor clear."""

@@ -123,14 +123,27 @@ class Styles:
         """What lies below an outline: the class's own fill, else the colour of the map."""
         return fill or colour_of(self.map.imagecolor) or "255 255 255"
 
+    def has_pattern(self, style):
+        return style.symbol and (colour_of(style.color) or self.map.symbolset.getSymbol(style.symbol).type == mapscript.MS_SYMBOL_PIXMAP)
+
+    def pattern(self, number, at, style, below):
+        """The fill and the outline that stand for a pattern: over a fill their mixed colour, and over the bare ground an outline alone."""
+        fill, outline = self.marks.in_place_of(style, below)
+        if fill:
+            how = f"filled in the mean colour {fill}"
+        else:
+            outline = colour_of(style.outlinecolor) or outline
+            how = f"an outline alone, in the colour {outline}, as the ground shows through"
+        self.report.left_out(self.place(number, at, "SYMBOL"), f"SYMBOL of a polygon: it is {how}")
+        return fill, outline
+
     def polygon(self, number, at, style, below):
         """A polygon's style; `below` is the fill that the class has painted before."""
         fill, outline = colour_of(style.color), colour_of(style.outlinecolor)
-        if style.symbol and (fill or self.map.symbolset.getSymbol(style.symbol).type == mapscript.MS_SYMBOL_PIXMAP):
-            fill = self.marks.mean_colour(style)
-            self.report.left_out(self.place(number, at, "SYMBOL"), f"SYMBOL of a polygon: it is filled in the mean colour {fill}")
-        lines = [f"COLOR {fill}"] if fill else []
         width = max(style.width, style.size if style.symbol else 0)
+        if self.has_pattern(style):
+            (fill, outline), width = self.pattern(number, at, style, below), 1
+        lines = [f"COLOR {fill}"] if fill else []
         if outline and width > 0:
             if width < 1:
                 thin = mixed(outline, self.ground(fill or below), width)
