@@ -35,7 +35,6 @@ WANTED = {
     "fontset": (['TEXT "Upper Mill (12.3 k)"', 'TEXT "ford, 678"', 'TEXT "mine"'], ["LABELITEM", "12345"]),
     "postgis": (["EXPRESSION {barn,mill}", 'ITEMS "1;barn"'], ["Ada", "Ben", "let", 'ITEMS "3']),
     "expressions": (["EXPRESSION {oak,ash}", '("[kind]" =* "FIR")', "EXPRESSION {1+2}", 'ITEMS "second;2"'], ["oak tree", "shrub", "1 2 3"]),
-    "patterns": (["COLOR 190 230 170 END", "STYLE COLOR 147 193 139 END", "STYLE OUTLINECOLOR 60 90 200 WIDTH 1 END", "STYLE OUTLINECOLOR 20 50 80 WIDTH 1 END", "STYLE COLOR 120 110 100 END"], ["229 240"]),
     "patterns": (["COLOR 190 230 170 END", "STYLE COLOR 147 193 139 END", "STYLE OUTLINECOLOR 60 90 200 WIDTH 1 END", "STYLE OUTLINECOLOR 20 50 80 WIDTH 1 END", "STYLE COLOR 120 110 100 END"], ["COLOR 70 120 110"]),
     "cluster": (["2.1 2", "1 3 5 3"], ["7 7", "9 8"]),
     "ranges": (["COLOR 10 50 90", "COLOR 30 70 110", "COLOR 150 190 230", 'ITEMS "900;1.8"'], ["COLORRANGE"]),
