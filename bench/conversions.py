@@ -35,6 +35,8 @@ WANTED = {
     "fontset": (['TEXT "Upper Mill (12.3 k)"', 'TEXT "ford, 678"', 'TEXT "mine"'], ["LABELITEM", "12345"]),
     "postgis": (["EXPRESSION {barn,mill}", 'ITEMS "1;barn"'], ["Ada", "Ben", "let", 'ITEMS "3']),
     "expressions": (["EXPRESSION {oak,ash}", '("[kind]" =* "FIR")', "EXPRESSION {1+2}", 'ITEMS "second;2"'], ["oak tree", "shrub", "1 2 3"]),
+    "small": (['TEXT "28-029-1710"', 'CONFIG "LABELFONT" "labels.bdf"'], ["LABELITEM"]),
+    "mono": (['TEXT "28-029-1710"', 'CONFIG "LABELFONT" "labels.bdf"'], ["LABELITEM"]),
     "patterns": (["COLOR 190 230 170 END", "STYLE COLOR 147 193 139 END", "STYLE OUTLINECOLOR 60 90 200 WIDTH 1 END", "STYLE OUTLINECOLOR 20 50 80 WIDTH 1 END", "STYLE COLOR 120 110 100 END"], ["COLOR 70 120 110"]),
     "cluster": (["2.1 2", "1 3 5 3"], ["7 7", "9 8"]),
     "ranges": (["COLOR 10 50 90", "COLOR 30 70 110", "COLOR 150 190 230", 'ITEMS "900;1.8"'], ["COLORRANGE"]),
@@ -51,7 +53,7 @@ WANTED = {
 # The options of those of which there is no map else.
 OPTIONS = {"limited": ["--shown"], "opened": ["--open"]}
 # Those with labels, for which a font is made.
-LABELLED = {"fontset", "labels"}
+LABELLED = {"fontset", "labels", "small", "mono"}
 
 
 class Checks:
@@ -333,14 +335,14 @@ def is_told(convert, block, word, kind, base, folder):
 
 def try_keywords(folder, checks):
     convert, bases = load_convert(), {}
-    from mapconvert import marks
+    from mapconvert import fonts
 
     def write_font(map, alias, size, folder):
-        """The name of the font and its size, in place of the font, which takes a tenth of a second."""
+        """The name of the font and its size, in place of the font, which takes half a second."""
         pathlib.Path(folder, "labels.bdf").write_text(f"{alias} {size}")
-        return alias
+        return alias, size, []
 
-    marks.write_font = write_font
+    fonts.write_font = write_font
     (folder / "base.map").write_text("")
     for kind in told.SHAPES:
         (folder / "base.map").write_text(told.mapfile(kinds=[kind])[0])

@@ -1,8 +1,6 @@
-"""Pixmaps of symbols, drawn by MapServer at their size, and the font of the labels."""
+"""Pixmaps of symbols, drawn by MapServer at their size."""
 import io
 import os
-import shutil
-import subprocess
 
 import mapscript
 from PIL import Image
@@ -13,7 +11,6 @@ LARGEST = 256
 NOTHING = (255, 0, 255)
 # A pattern whose mean opacity, of 255, is this is a fill; its edges are smoothed.
 COVERS = 242
-PLAIN_FONTS = ("/usr/share/fonts/truetype/dejavu/DejaVuSans.ttf",)
 HERE = os.path.dirname(os.path.realpath(__file__))
 
 
@@ -103,30 +100,3 @@ class Marks:
     def lines(self):
         for name in self.names.values():
             yield f'  SYMBOL NAME "{name}" TYPE PIXMAP IMAGE "{name}.ppm" END'
-
-
-def path_of_font(map, alias):
-    """The file of a font of the FONTSET."""
-    listed = map.fontset.filename
-    if not alias or not listed:
-        return None
-    try:
-        named = map.fontset.fonts.get(alias.split(",")[0])
-    except mapscript.MapServerError:
-        return None
-    if not named:
-        return None
-    return os.path.join(map.mappath or ".", os.path.dirname(listed), named)
-
-
-def write_font(map, alias, size, folder):
-    """Writes a font by otf2bdf; what it was made of, or nothing where there is neither that nor a file."""
-    path = path_of_font(map, alias)
-    if path is None or not os.path.exists(path):
-        path = next((plain for plain in PLAIN_FONTS if os.path.exists(plain)), None)
-    if path is None or shutil.which("otf2bdf") is None:
-        return None
-    # MapServer's letters of SIZE points are drawn at 96 dots an inch.
-    bdf = os.path.join(folder, "labels.bdf")
-    subprocess.run(["otf2bdf", "-p", str(max(4, round(size))), "-r", "96", "-o", bdf, path], capture_output=True)
-    return os.path.basename(path) if os.path.exists(bdf) and os.path.getsize(bdf) else None
