@@ -56,13 +56,18 @@ def cut(rows):
     return [row[left : right + 1] for row in rows]
 
 
+def stretched(rows):
+    """The dots of a letter in a square, each as it is in the letter at the dot's middle."""
+    middles = [2 * number + 1 for number in range(SIDE)]
+    return [rows[down * len(rows) // (2 * SIDE)][across * len(rows[0]) // (2 * SIDE)] for down in middles for across in middles]
+
+
 def are_alike(one, other):
     """Whether two letters are hard to tell apart: nearly as wide, and of one shape once they are stretched to one box."""
     if not one or not other or abs(len(one[0]) - len(other[0])) > 1:
         return False
-    dots = [(row, column) for row in range(SIDE) for column in range(SIDE)]
-    at = lambda letter, row, column: letter[row * len(letter) // SIDE][column * len(letter[0]) // SIDE]
-    return sum(at(one, *dot) != at(other, *dot) for dot in dots) < ALIKE * len(dots)
+    differing = sum(dot != there for dot, there in zip(stretched(one), stretched(other)))
+    return differing < ALIKE * SIDE * SIDE
 
 
 def alike_in(text):
