@@ -35,6 +35,7 @@ WANTED = {
     "fontset": (['TEXT "Upper Mill (12.3 k)"', 'TEXT "ford, 678"', 'TEXT "mine"'], ["LABELITEM", "12345"]),
     "postgis": (["EXPRESSION {barn,mill}", 'ITEMS "1;barn"'], ["Ada", "Ben", "let", 'ITEMS "3']),
     "expressions": (["EXPRESSION {oak,ash}", '("[kind]" =* "FIR")', "EXPRESSION {1+2}", 'ITEMS "second;2"'], ["oak tree", "shrub", "1 2 3"]),
+    "counted": (['TEXT "well 1"', "2.375 3.5", 'NAME "sights"', 'ITEMS "well"'], ["crowds", 'NAME "dot3"', "class", 'TEXT "1"']),
     "small": (['TEXT "28-029-1710"', 'CONFIG "LABELFONT" "labels.bdf"'], ["LABELITEM"]),
     "mono": (['TEXT "28-029-1710"', 'CONFIG "LABELFONT" "labels.bdf"'], ["LABELITEM"]),
     "patterns": (["COLOR 190 230 170 END", "STYLE COLOR 147 193 139 END", "STYLE OUTLINECOLOR 60 90 200 WIDTH 1 END", "STYLE OUTLINECOLOR 20 50 80 WIDTH 1 END", "STYLE COLOR 120 110 100 END"], ["COLOR 70 120 110"]),
@@ -53,7 +54,7 @@ WANTED = {
 # The options of those of which there is no map else.
 OPTIONS = {"limited": ["--shown"], "opened": ["--open"]}
 # Those with labels, for which a font is made.
-LABELLED = {"fontset", "labels", "small", "mono"}
+LABELLED = {"counted", "fontset", "labels", "small", "mono"}
 
 
 class Checks:

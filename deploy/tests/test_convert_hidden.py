@@ -26,7 +26,7 @@ OVER = -1
 
 def layer_of(**given):
     """A layer as MapServer has it, with its defaults."""
-    values = dict(name="a", type=mapscript.MS_LAYER_LINE, requires=None, compositer=None, metadata={}, getGeomTransform=lambda: None)
+    values = dict(cluster=SimpleNamespace(region=None), name="a", type=mapscript.MS_LAYER_LINE, requires=None, compositer=None, metadata={}, getGeomTransform=lambda: None)
     return SimpleNamespace(**{**values, **given})
 
 

@@ -71,6 +71,7 @@ class Layer:
 
     def __init__(self, *given, group=None):
         self.given, self.classgroup, self.classitem = list(given), group, None
+        self.cluster = SimpleNamespace(region=None)
 
     @property
     def numclasses(self):

@@ -4,6 +4,8 @@ import re
 import mapfile
 import mapscript
 
+from mapconvert import clusters
+
 # A style that colours by a range of values becomes so many classes.
 RANGES = 8
 ITEM = "class"
@@ -57,12 +59,10 @@ class Classes:
 
     def __init__(self, map, layer, report, node):
         self.map, self.layer, self.report, self.node = map, layer, report, node
-        numbers = list(range(layer.numclasses))
-        if layer.classgroup:
-            numbers = [number for number in numbers if (layer.getClass(number).group or "").lower() == layer.classgroup.lower()]
-            for number in reversed(range(layer.numclasses)):
-                if number not in numbers:
-                    layer.removeClass(number)
+        numbers = self.numbers()
+        for number in reversed(range(layer.numclasses)):
+            if number not in numbers:
+                layer.removeClass(number)
         self.kinds = [Kind(number, layer.getClass(at)) for at, number in enumerate(numbers)]
         bounds = (bound for kind in self.kinds for bound in (kind.given.minscaledenom, kind.given.maxscaledenom))
         edges = sorted({bound for bound in bounds if bound > 0})
@@ -71,6 +71,17 @@ class Classes:
         for kind in self.kinds:
             kind.given.minfeaturesize = -1
         self.rules = None
+
+    def numbers(self):
+        """The numbers of the classes that a feature may have: those of CLASSGROUP, and of a clustered layer those of a single point."""
+        layer, gone = self.layer, clusters.settle(self.layer)
+        if gone is not None:
+            self.report.changed(self.node.at("CLUSTER"), "Cluster_FeatureCount is 1 for each point")
+        for number in sorted(gone or ()):
+            self.report.changed(self.node.at("CLASS", number), "a CLASS for several points together isn't there")
+        groups = {number: (layer.getClass(number).group or "").lower() for number in range(layer.numclasses)}
+        wanted = (layer.classgroup or "").lower()
+        return [number for number, group in groups.items() if number not in (gone or ()) and (not wanted or group == wanted)]
 
     def of(self, shape, value):
         """The classes that a shape has at some scale, each with its part; `value` gives that of an item."""
