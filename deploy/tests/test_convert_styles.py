@@ -52,6 +52,29 @@ class Painting(unittest.TestCase):
         style = style_of(color=colour(10, 20, 30), outlinecolor=colour(40, 50, 60), width=4, outlinewidth=2)
         self.assertEqual(self.of("LINE", style), [["COLOR 40 50 60", "WIDTH 8"], ["COLOR 10 20 30", "WIDTH 4"]])
 
+    def test_a_casing_shows_equally_on_both_sides(self):
+        rows = [
+            ([3, 1.5], [3, 1]), ([5, 4], [6, 4]), ([2.8, 2], [4, 2]), ([3, 2], [4, 2]), ([2.2, 2], [2, 2]), ([9, 7, 1], [9, 7, 1]), ([9, 6, 1.5], [9, 5, 1]),
+            ([1, 3], [1, 3]), ([40, 30], [32, 30]), ([5, 3, 6.5], [5, 3, 7]), ([2.5], [3]), ([0.4], [1]), ([], []),
+        ]
+        for widths, kept in rows:
+            self.assertEqual(styles.cased(widths, 32), kept, widths)
+
+    def test_what_changes_for_a_casing_is_reported(self):
+        given = [style_of(color=colour(10, 20, 30), width=3), style_of(color=colour(40, 50, 60), width=1.5)]
+        self.assertEqual(self.of("LINE", *given), [["COLOR 10 20 30", "WIDTH 3"], ["COLOR 40 50 60", "WIDTH 1"]])
+        self.assertEqual(self.said(), ["changed: the width 1.5 is 1, so that a casing is as wide on both sides"])
+
+    def test_units_are_those_of_the_projection(self):
+        if not hasattr(styles.mapscript, "projectionObj"):
+            self.skipTest("python3-mapscript is missing")
+        found = []
+        for system in ("init=epsg:4326", "init=epsg:3857", None, "AUTO"):
+            map = SimpleNamespace(getProjection=lambda: system)
+            styles.take_units(map)
+            found.append(map.units)
+        self.assertEqual(found, [5, 3, 5, 5])
+
     def test_marks_along_a_line_are_left_out(self):
         self.assertEqual(self.of("LINE", style_of(color=colour(10, 20, 30), symbol=3, gap=20)), [])
         self.assertEqual(self.said(), ["left out: GAP: no marks along a line"])

@@ -4,6 +4,7 @@ import mapscript
 # Inches in each unit of MapServer's, by its number; DD is by the length of a degree at the equator.
 INCHES = {0: 1, 1: 12, 2: 63_360, 3: 39.3701, 4: 39_370.1, 5: 4_374_754}
 INCHES_OF_A_PIXEL = 1 / 72
+WIDEST = 32
 
 
 def colour_of(colour):
@@ -16,6 +17,20 @@ def pixels(number, most):
     return min(max(int(number + 0.5), 1), most)
 
 
+def cased(widths, most):
+    """Whole widths of lines that lie upon each other, the lowest first: a wider one below shows equally on both sides."""
+    if not widths:
+        return []
+    made = []
+    for top in sorted({max(int(widths[-1]), 1), pixels(widths[-1], most)}):
+        kept = [min(top, most)]
+        for lower, upper in zip(widths[-2::-1], widths[:0:-1]):
+            shown = 2 * max(int((lower - upper) / 2 + 0.5), lower - upper > 0.5) if lower > upper else None
+            kept.insert(0, pixels(lower, most) if shown is None else min(kept[0] + shown, most - (most - kept[0]) % 2))
+        made.append((sum(abs(one - other) for one, other in zip(kept, widths)), kept))
+    return min(made)[1] if len(widths) > 1 else [pixels(widths[0], most)]
+
+
 def mixed(over, below, share):
     """The colour of which `over` takes a share, and `below` the rest."""
     parts = (int(share * one + (1 - share) * other + 0.5) for one, other in zip(map(int, over.split()), map(int, below.split())))
@@ -26,6 +41,13 @@ def between(low, high, share):
     """The colour at a share of the way from one to another."""
     parts = (int(one + (other - one) * share) for one, other in ((low.red, high.red), (low.green, high.green), (low.blue, high.blue)))
     return "%d %d %d" % tuple(parts)
+
+
+def take_units(map):
+    """Gives a map without UNITS those of its projection, as MapServer's WMS does; without one places are degrees."""
+    system = (map.getProjection() or "").strip()
+    is_known = system and system.lower() != "auto"
+    map.units = mapscript.projectionObj(system.replace("init=EPSG", "init=epsg")).getUnits() if is_known else mapscript.MS_DD
 
 
 def scale_of_sizes(map, layer):
@@ -96,7 +118,7 @@ class Styles:
         return [f'SYMBOL "{symbol}"']
 
     def width(self, number, at, width):
-        kept = pixels(width, 32)
+        kept = pixels(width, WIDEST)
         if kept != width:
             self.report.changed(self.place(number, at, "WIDTH"), f"the width {width:g} is {kept}")
         return kept
@@ -111,13 +133,23 @@ class Styles:
         width = max(style.width, style.size) if style.symbol and style.size > 0 else style.width
         if width <= 0:
             return None
-        return None if colour is None else [f"COLOR {colour}", f"WIDTH {self.width(number, at, width)}"]
+        return None if colour is None else (colour, width, at)
 
-    def casing(self, number, at, style):
+    def casing(self, at, style):
         colour = colour_of(style.outlinecolor)
         if colour is None or style.outlinewidth <= 0 or style.symbol and style.gap != 0:
             return None
-        return [f"COLOR {colour}", f"WIDTH {self.width(number, at, style.width + 2 * style.outlinewidth)}"]
+        return colour, style.width + 2 * style.outlinewidth, at
+
+    def whole_lines(self, number, painted):
+        """The lines of a class in whole widths, each with what it paints."""
+        painted = [one for one in painted if one]
+        kept = cased([width for _, width, _ in painted], WIDEST)
+        for (_, width, at), whole in zip(painted, kept):
+            if whole != width:
+                why = "" if whole == pixels(width, WIDEST) else ", so that a casing is as wide on both sides"
+                self.report.changed(self.place(number, at, "WIDTH"), f"the width {width:g} is {whole}{why}")
+        return [[f"COLOR {colour}", f"WIDTH {whole}"] for (colour, _, _), whole in zip(painted, kept)]
 
     def ground(self, fill):
         """What lies below an outline: the class's own fill, else the colour of the map."""
@@ -167,13 +199,13 @@ class Styles:
                 style = self.at_part(style, part)
             self.lost(number, at, style)
             if self.kind == "LINE":
-                painted += [self.casing(number, at, style), self.line(number, at, style)]
+                painted += [self.casing(at, style), self.line(number, at, style)]
             elif self.kind == "POINT":
                 painted.append(self.point(number, at, style))
             else:
                 painted.append(self.polygon(number, at, style, below))
                 below = next((line.removeprefix("COLOR ") for line in painted[-1] or () if line.startswith("COLOR ")), below)
-        return [lines for lines in painted if lines]
+        return self.whole_lines(number, painted) if self.kind == "LINE" else [lines for lines in painted if lines]
 
     def at_part(self, style, part):
         """A style with the colour in the middle of a part of its range."""
