@@ -35,6 +35,7 @@ WANTED = {
     "fontset": (['TEXT "Upper Mill (12.3 k)"', 'TEXT "ford, 678"', 'TEXT "mine"'], ["LABELITEM", "12345"]),
     "postgis": (["EXPRESSION {barn,mill}", 'ITEMS "1;barn"'], ["Ada", "Ben", "let", 'ITEMS "3']),
     "expressions": (["EXPRESSION {oak,ash}", '("[kind]" =* "FIR")', "EXPRESSION {1+2}", 'ITEMS "second;2"'], ["oak tree", "shrub", "1 2 3"]),
+    "bound": (['TITLE "route: #1e3250, 3"', "EXPRESSION {1.2} STYLE COLOR 200 90 40 WIDTH 5", 'ITEMS "#1e3250;3;1.1"', 'ITEMS "1.2"', 'TITLE "1: 2"'], ["secret", "turn"]),
     "casings": (["COLOR 130 120 110 WIDTH 3", "COLOR 250 250 250 WIDTH 1", "COLOR 90 80 70 WIDTH 6", "COLOR 240 200 40 WIDTH 4", "COLOR 200 200 200 WIDTH 4", "COLOR 20 20 20 WIDTH 2", "COLOR 30 90 200 WIDTH 5"], ["WIDTH 32"]),
     "counted": (['TEXT "well 1"', "2.375 3.5", 'NAME "sights"', 'ITEMS "well"'], ["crowds", 'NAME "dot3"', "class", 'TEXT "1"']),
     "small": (['TEXT "28-029-1710"', 'CONFIG "LABELFONT" "labels.bdf"'], ["LABELITEM"]),

@@ -55,8 +55,8 @@ class Rules(unittest.TestCase):
         given = SimpleNamespace(numstyles=1, getStyle=lambda at: style, status=1, title=None, name=None)
         kind = classes.Kind(0, given)
         self.assertEqual([kind.part_of(value) for value in (50, 100, 109.9, 110, 179, 180, 500)], [1, 1, 1, 2, 8, 8, 8])
-        self.assertEqual([layers.title_of(kind, part) for part in (0, 1, 8)], [None, "pop 100 to 110", "pop 170 to 180"])
-        style.maxvalue = 100
+        self.assertEqual([layers.title_of(kind, part, []) for part in (0, 1, 8)], [None, "pop 100 to 110", "pop 170 to 180"])
+        style.maxvalue, style.getBinding = 100, lambda number: None
         kind = classes.Kind(0, given)
         self.assertEqual((list(kind.parts()), kind.part_of(100)), ([0], 0))
 

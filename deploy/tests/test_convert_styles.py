@@ -38,7 +38,7 @@ class Painting(unittest.TestCase):
     def of(self, kind, *given):
         map = SimpleNamespace(imagecolor=colour(200, 210, 220))
         made = styles.Styles(map, None, kind, self.marks, self.report, Node(("m.map", 7)))
-        return made.of(0, SimpleNamespace(numstyles=len(given), getStyle=lambda at: given[at]), 0)
+        return made.of(0, SimpleNamespace(numstyles=len(given), getStyle=lambda at: given[at]), 0, {})
 
     def said(self):
         return [line.split(": ", 1)[1] for line in self.report.text().splitlines()[:-1]]
@@ -54,7 +54,7 @@ class Painting(unittest.TestCase):
 
     def test_a_casing_shows_equally_on_both_sides(self):
         rows = [
-            ([3, 1.5], [3, 1]), ([5, 4], [6, 4]), ([2.8, 2], [4, 2]), ([3, 2], [4, 2]), ([2.2, 2], [2, 2]), ([9, 7, 1], [9, 7, 1]), ([9, 6, 1.5], [9, 5, 1]),
+            ([3, 1.5], [3, 1]), ([5, 4], [6, 4]), ([2.8, 2], [4, 2]), ([3, 2], [4, 2]), ([2.2, 2], [2, 2]), ([9, 7, 1], [9, 7, 1]), ([9, 6, 1.5], [10, 6, 2]),
             ([1, 3], [1, 3]), ([40, 30], [32, 30]), ([5, 3, 6.5], [5, 3, 7]), ([2.5], [3]), ([0.4], [1]), ([], []),
         ]
         for widths, kept in rows:
@@ -132,9 +132,10 @@ class Painting(unittest.TestCase):
 def label_of(**given):
     """A label as MapServer has it, with its defaults."""
     values = dict(color=colour(10, 20, 30), outlinecolor=NONE, position=110, priority=1, buffer=0, mindistance=-1, partials=0, force=0, font="sans",
-                  size=9, wrap="", numstyles=0, angle=0, anglemode=labels.mapscript.MS_NONE, rule=None, text="[name]")
+                  size=9, wrap="", numstyles=0, angle=0, anglemode=labels.mapscript.MS_NONE, rule=None, text="[name]", bound=None)
     made = SimpleNamespace(**{**values, **given})
     made.getExpressionString, made.getTextString = lambda: made.rule, lambda: made.text
+    made.getBinding = lambda number: made.bound if number == 0 else None
     return made
 
 
@@ -171,6 +172,12 @@ class Labels(unittest.TestCase):
     def test_what_has_no_counterpart_is_reported(self):
         self.label(angle=30, wrap="|", numstyles=1)
         self.assertEqual(self.report.losses, 3)
+
+    def test_what_is_bound_is_reported(self):
+        if not hasattr(labels.mapscript, "MS_LABEL_BINDING_LENGTH"):
+            self.skipTest("python3-mapscript is missing")
+        made = labels_of(label_of(bound="hue", color=NONE), label_of())
+        self.assertEqual(made.report.text(), "m.map:7: left out: [hue] of a LABEL: it is drawn as if this weren't given\n0 changed, 1 left out\n")
 
     def test_letters_that_are_not_drawn_are_not_black(self):
         self.assertEqual(self.label(color=NONE, outlinecolor=colour(40, 50, 60))[:2], ["COLOR -1 -1 -1", "OUTLINECOLOR 40 50 60"])
@@ -217,7 +224,7 @@ class Layers(unittest.TestCase):
         """The names of the layers that one layer of lines becomes, each with the styles that it has."""
         writer = layers.LayerWriter.__new__(layers.LayerWriter)
         writer.kind, writer.report, writer.node = "LINE", Report(), Node(("m.map", 7))
-        kind = SimpleNamespace(number=0, given=None)
+        kind = SimpleNamespace(number=0, given=None, values_of=lambda part: {})
         writer.written, writer.styled = lambda: [(0, kind, 0, None, None)], SimpleNamespace(of=lambda *_: list(styles))
         writer.class_blocks, writer.whole = lambda chosen, has_labels: (chosen(0, 0), has_labels), lambda name, blocks, is_top: (*blocks, is_top)
         return writer.blocks(name, taken)

@@ -366,7 +366,7 @@ function clickOf(layers, latlng, point) {
 }
 
 /** Whether an item is the one in which deploy/convert gives a feature the numbers of its classes, for drawing alone. */
-const isForDrawing = ([name, value]) => name === "class" && /^\d+(\.\d)?(\+\d+(\.\d)?)*$/.test(value);
+const isForDrawing = ([name, value]) => name === "class" && /^\d+(\.\d\d?)?(\+\d+(\.\d\d?)?)*$/.test(value);
 
 /** The features of an answer: each with its layer's name and its items as [name, value]. A value may have several lines. */
 function featuresOf(text) {

@@ -4,7 +4,8 @@ import re
 import mapfile
 import mapscript
 
-from mapconvert import clusters
+from mapconvert import bound, clusters
+from mapconvert.texts import number_of
 
 # A style that colours by a range of values becomes so many classes.
 RANGES = 8
@@ -40,11 +41,25 @@ class Kind:
         self.number, self.given = number, given
         styles = (given.getStyle(at) for at in range(given.numstyles))
         self.ranged = next((style for style in styles if style.rangeitem and style.maxvalue > style.minvalue), None)
+        # the items to which its styles are bound, and the number of the part of each of their values
+        self.bound, self.values = () if self.ranged else bound.items_of(given), {}
         self.is_on = given.status != mapscript.MS_OFF
 
     def parts(self):
         """The parts that it is drawn in, 0 for the whole."""
-        return range(1, RANGES + 1) if self.ranged else (0,)
+        if self.ranged:
+            return range(1, RANGES + 1)
+        return range(1, len(self.values) + 1) if self.bound else (0,)
+
+    def part(self, value):
+        """The part of a feature; `value` gives the text of an item."""
+        if self.bound:
+            return self.values.setdefault(tuple(value(item) for item in self.bound), len(self.values) + 1)
+        return self.part_of(number_of(value(self.ranged.rangeitem))) if self.ranged else 0
+
+    def values_of(self, part):
+        """The values of a part, by the items to which the styles are bound."""
+        return dict(zip(self.bound, list(self.values)[part - 1])) if self.bound and part else {}
 
     def part_of(self, value):
         """The part of a value, and 0 where the class is in one part."""
@@ -84,15 +99,14 @@ class Classes:
         return [number for number, group in groups.items() if number not in (gone or ()) and (not wanted or group == wanted)]
 
     def of(self, shape, value):
-        """The classes that a shape has at some scale, each with its part; `value` gives that of an item."""
+        """The classes that a shape has at some scale, each with its part; `value` gives the text of an item."""
         found = []
         for scale in self.scales:
             self.map.scaledenom = scale
             at = self.layer.getClassIndex(self.map, shape)
             if at < 0 or not self.kinds[at].is_on:
                 continue
-            ranged = self.kinds[at].ranged
-            part = (at, self.kinds[at].part_of(value(ranged.rangeitem)) if ranged else 0)
+            part = (at, self.kinds[at].part(value))
             if part not in found:
                 found.append(part)
         return tuple(found)
@@ -101,6 +115,18 @@ class Classes:
         """The value of the item `class` of a feature."""
         named = [f"{self.kinds[at].number + 1}" + (f".{part}" if part else "") for at, part in found]
         return "+".join(named)
+
+    def settle_values(self, features):
+        """Draws a class as a whole whose styles are bound to items with too many values; else says how many there are."""
+        for at, kind in enumerate(self.kinds):
+            named = ", ".join(f"[{item}]" for item in kind.bound)
+            if len(kind.values) > bound.MOST:
+                self.report.left_out(self.node.at("CLASS", kind.number, "STYLE"), f"{named}: each value is drawn as if it weren't given, as there are {len(kind.values):,}")
+                kind.bound = ()
+                for feature in features:
+                    feature.classes = tuple(dict.fromkeys((one, 0 if one == at else part) for one, part in feature.classes))
+            elif kind.values:
+                self.report.changed(self.node.at("CLASS", kind.number, "STYLE"), f"{named}: the CLASS is {len(kind.values)}, one for each value")
 
     # Rules.
 
@@ -123,6 +149,8 @@ class Classes:
         text = kind.given.getExpressionString()
         if kind.ranged:
             return None, f"a colour by {kind.ranged.rangeitem} is {RANGES} classes", None
+        if kind.bound:
+            return None, f"{', '.join(f'[{item}]' for item in kind.bound)} of a STYLE has a class for each value, up to {bound.MOST}", None
         if not text:
             return None, None, None
         rule, changed = self.written(text)

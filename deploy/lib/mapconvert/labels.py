@@ -18,6 +18,16 @@ class Labels:
         self.sources = [self.source_of_text(kind.given) if sees else None for kind, sees in zip(kinds, self.visible)]
         self.rules = [kind.given.getLabel(0).getExpressionString() if sees else None for kind, sees in zip(kinds, self.visible)]
         self.fonts = []
+        for kind in kinds:
+            self.say_bound(kind)
+
+    def say_bound(self, kind):
+        """Says what of a class's label is bound to an item."""
+        for at in range(min(kind.given.numlabels, 1)):
+            label = kind.given.getLabel(at)
+            found = (label.getBinding(number) for number in range(getattr(mapscript, "MS_LABEL_BINDING_LENGTH", 0)))
+            for item in filter(None, found):
+                self.report.left_out(self.place(kind.number, "LABEL", at), f"[{item}] of a LABEL: it is drawn as if this weren't given")
 
     def place(self, number, *path):
         return self.node.at("CLASS", number, *path)

@@ -29,9 +29,10 @@ class LayerWriter:
         self.map, self.layer, self.report, self.node = map, layer, report, node
         self.kind, self.options = shapes.TYPES[layer.type], options
         self.layer_report = shapes.LayerReport(report, node.place)
-        write_in_pixels(map, layer, report, node)
+        factor = write_in_pixels(map, layer, report, node)
         self.classes = classes.Classes(map, layer, report, node)
         self.styled = Styles(map, layer, self.kind, marks, report, node)
+        self.styled.factor = factor
 
     def place(self, *path):
         return self.node.at(*path)
@@ -51,6 +52,7 @@ class LayerWriter:
         self.labels = Labels(self.layer, self.classes.kinds, self.report, self.node)
         self.labels.fonts = self.options.fonts
         self.features = reading.features(self.labels.text if any(self.labels.visible) else lambda found, values, given: None)
+        self.classes.settle_values(self.features)
         self.hide_small_features()
         self.look_beyond_extent(reading.source.change)
         self.say_what_was_read(reading)
@@ -156,7 +158,7 @@ class LayerWriter:
             for part in kind.parts():
                 rule = self.classes.by_item(at, part, self.features) if self.classes.is_computed else self.classes.rules[at]
                 if kind.is_on and (rule is not None or not self.classes.is_computed):
-                    yield at, kind, part, rule, title_of(kind, part)
+                    yield at, kind, part, rule, title_of(kind, part, self.answered)
 
     def class_blocks(self, chosen, has_labels):
         """The classes, with those of their styles that `chosen` takes. A label with scales of its own has a class of its own."""
@@ -205,7 +207,7 @@ class LayerWriter:
 
     def blocks(self, name, taken):
         """The LAYER blocks, the lowest first, each with its name; those of other layers are taken."""
-        styles = {(at, part): self.styled.of(kind.number, kind.given, part) for at, kind, part, _, _ in self.written()}
+        styles = {(at, part): self.styled.of(kind.number, kind.given, part, kind.values_of(part)) for at, kind, part, _, _ in self.written()}
         passes = max(map(len, styles.values()), default=0) if self.kind == "LINE" else 1
         made = []
         for step in range(passes - 1):
@@ -219,10 +221,14 @@ class LayerWriter:
         return made + [(name, self.whole(name, top, True))]
 
 
-def title_of(kind, part):
-    """The title of one of the parts of a class that colours by a range: the values that it takes."""
+def title_of(kind, part, answered):
+    """The title of one of several parts of a class: the values that it takes; of items that aren't answered the number of the part."""
     if not part:
         return None
+    if kind.bound:
+        is_open = set(kind.bound) <= {item.lower() for item in answered}
+        words = ", ".join(kind.values_of(part).values()) if is_open else f"{part}"
+        return f"{kind.given.title or kind.given.name or kind.number + 1}: {words}"
     low, high = kind.ranged.minvalue, kind.ranged.maxvalue
     step = (high - low) / classes.RANGES
     return f"{kind.given.title or kind.given.name or kind.ranged.rangeitem} {low + (part - 1) * step:g} to {low + part * step:g}"

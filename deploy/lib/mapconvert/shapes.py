@@ -191,7 +191,7 @@ class Reading:
                 print(f"\r{self.layer.name}: {count:,} features", end="", file=sys.stderr, flush=True)
             if 0 < most <= len(kept):
                 break
-            found = self.classes.of(shape, lambda item: texts.number_of(shape.getValue(numbers[item.lower()]) or "") if item.lower() in numbers else 0.0)
+            found = self.classes.of(shape, lambda item: (shape.getValue(numbers[item.lower()]) or "") if item.lower() in numbers else "")
             if not found:
                 self.hidden += 1
                 continue

@@ -1,6 +1,8 @@
 """What the styles of a layer's classes become."""
 import mapscript
 
+from mapconvert import bound
+
 # Inches in each unit of MapServer's, by its number; DD is by the length of a degree at the equator.
 INCHES = {0: 1, 1: 12, 2: 63_360, 3: 39.3701, 4: 39_370.1, 5: 4_374_754}
 INCHES_OF_A_PIXEL = 1 / 72
@@ -28,7 +30,9 @@ def cased(widths, most):
             shown = 2 * max(int((lower - upper) / 2 + 0.5), lower - upper > 0.5) if lower > upper else None
             kept.insert(0, pixels(lower, most) if shown is None else min(kept[0] + shown, most - (most - kept[0]) % 2))
         made.append((sum(abs(one - other) for one, other in zip(kept, widths)), kept))
-    return min(made)[1] if len(widths) > 1 else [pixels(widths[0], most)]
+    # of two that are as near, the one that is rounded as a line by itself
+    made.sort(key=lambda one: (one[0], one[1][-1] != pixels(widths[-1], most)))
+    return made[0][1] if len(widths) > 1 else [pixels(widths[0], most)]
 
 
 def mixed(over, below, share):
@@ -62,9 +66,9 @@ def scale_of_sizes(map, layer):
 
 
 def write_in_pixels(map, layer, report, node):
-    """Brings SIZEUNITS of the ground to pixels, at one scale."""
+    """Brings SIZEUNITS of the ground to pixels, at one scale, by the factor that it gives back."""
     if layer.sizeunits not in INCHES:
-        return
+        return 1
     scale = scale_of_sizes(map, layer)
     factor = INCHES[layer.sizeunits] / (scale * INCHES_OF_A_PIXEL)
     for number in range(layer.numclasses):
@@ -78,10 +82,13 @@ def write_in_pixels(map, layer, report, node):
             style.width = min(max(style.width, style.minwidth), style.maxwidth) if style.width > 0 else style.width
     layer.sizeunits = mapscript.MS_PIXELS
     report.changed(node.at("SIZEUNITS"), f"SIZEUNITS: sizes are pixels, as they are at 1:{scale:,.0f}")
+    return factor
 
 
 class Styles:
-    """The styles of one layer."""
+    """The styles of one layer. `factor` brings sizes that are bound to an item to pixels."""
+
+    factor = 1
 
     def __init__(self, map, layer, kind, marks, report, node):
         self.map, self.layer, self.kind, self.marks, self.report, self.node = map, layer, kind, marks, report, node
@@ -184,11 +191,11 @@ class Styles:
             lines += [f"OUTLINECOLOR {outline}", f"WIDTH {self.width(number, at, width)}"]
         return lines or None
 
-    def of(self, number, kind, part):
-        """The styles of a class in the order in which MapServer paints them, each with what it paints."""
+    def of(self, number, kind, part, values):
+        """The styles of a class in the order in which MapServer paints them, each with what it paints; `values` are those of items to which they are bound."""
         painted, below = [], None
         for at in range(kind.numstyles):
-            style = kind.getStyle(at)
+            style = bound.with_values(kind.getStyle(at), values, self.factor)
             if style.getGeomTransform():
                 self.report.left_out(self.place(number, at, "GEOMTRANSFORM"), "a STYLE with GEOMTRANSFORM")
                 continue
