@@ -220,20 +220,25 @@ class LabelsOfFeatures(unittest.TestCase):
 
 
 class Layers(unittest.TestCase):
-    def blocks(self, name, taken, *styles):
+    def blocks(self, name, taken, *styles, metadata=None):
         """The names of the layers that one layer of lines becomes, each with the styles that it has."""
         writer = layers.LayerWriter.__new__(layers.LayerWriter)
         writer.kind, writer.report, writer.node = "LINE", Report(), Node(("m.map", 7))
         kind = SimpleNamespace(number=0, given=None, values_of=lambda part: {})
         writer.written, writer.styled = lambda: [(0, kind, 0, None, None)], SimpleNamespace(of=lambda *_: list(styles))
-        writer.class_blocks, writer.whole = lambda chosen, has_labels: (chosen(0, 0), has_labels), lambda name, blocks, is_top: (*blocks, is_top)
+        writer.class_blocks, writer.whole = lambda chosen, has_labels: (chosen(0, 0), has_labels), lambda name, blocks, title, is_top: (*blocks, title, is_top)
+        writer.layer = SimpleNamespace(metadata=metadata or {})
         return writer.blocks(name, taken)
 
     def test_outer_styles_of_lines_are_layers_below(self):
         self.assertEqual(self.blocks("roads", {"roads"}, "outer", "middle", "inner"), [
-            ("roads_below1", (["outer"], False, False)), ("roads_below2", (["middle"], False, False)), ("roads", (["inner"], True, True)),
+            ("roads_below1", (["outer"], False, "roads", False)), ("roads_below2", (["middle"], False, "roads", False)), ("roads", (["inner"], True, None, True)),
         ])
-        self.assertEqual(self.blocks("roads", {"roads"}, "one"), [("roads", (["one"], True, True))])
+        self.assertEqual(self.blocks("roads", {"roads"}, "one"), [("roads", (["one"], True, None, True))])
+
+    def test_they_have_one_title(self):
+        made = self.blocks("roads", {"roads"}, "outer", "inner", metadata={"ows_title": "Streets"})
+        self.assertEqual([block[2] for _, block in made], ["Streets", "Streets"])
 
     def test_their_names_are_none_of_other_layers(self):
         taken = {"roads", "roads_below1"}

@@ -1,5 +1,5 @@
 """The LAYER blocks of a map."""
-from mapconvert import access, classes, hidden, shapes
+from mapconvert import access, classes, hidden, shapes, texts
 from mapconvert.classes import ITEM, both, quoted, scales
 from mapconvert.labels import Labels
 from mapconvert.styles import Styles, write_in_pixels
@@ -135,7 +135,7 @@ class LayerWriter:
         lines = ["    CLASS"]
         # They have no effect on the map, and are the title of the class in the viewer's legend.
         lines += [f"      NAME {quoted(kind.given.name)}"] if kind.given.name else []
-        title = title or kind.given.title or (f"{kind.number + 1}" if self.is_telling(rule) and not kind.given.name else None)
+        title = title or kind.given.title or (None if kind.given.name else self.unnamed_title(kind, rule))
         lines += [f"      TITLE {quoted(title)}"] if title else []
         if rule is not None:
             lines.append(f"      EXPRESSION {rule}")
@@ -144,6 +144,13 @@ class LayerWriter:
         if label:
             lines.append("      LABEL " + " ".join(label) + " END")
         return lines + ["    END"]
+
+    def unnamed_title(self, kind, rule):
+        """The title of a class without one and without a name: its TEXT where that has no item, else its number where its rule tells one."""
+        text = kind.given.getTextString() or ""
+        if text and "[" not in text and not text.startswith("("):
+            return texts.label_text(text, {})
+        return f"{kind.number + 1}" if self.is_telling(rule) else None
 
     def is_telling(self, rule):
         """Whether a rule, which the legend shows of a class without a name, has an item in it that isn't answered."""
@@ -186,14 +193,17 @@ class LayerWriter:
                 lines.insert(1, f"      TEXT {quoted(shapes.features.CONTROL.sub('?', feature.text))}")
             yield from lines
 
-    def whole(self, name, blocks, is_top):
+    def title(self):
+        """The title that the layer is given; nothing where its name is its title."""
+        return self.layer.metadata.get("wms_title") or self.layer.metadata.get("ows_title")
+
+    def whole(self, name, blocks, title, is_top):
         """A LAYER."""
         layer = self.layer
         is_computed = self.classes.is_computed
         items = shapes.features.items_of(self.items(), [ITEM] if is_computed else [], "_", self.layer_report)
         if is_computed:
             items[COMPUTED] = ITEM
-        title = layer.metadata.get("wms_title") or layer.metadata.get("ows_title") if is_top else None
         lines = ["  LAYER", f"    NAME {quoted(name)}", f"    TYPE {self.kind}"]
         lines += [f"    METADATA \"wms_title\" {quoted(title)} END"] if title else []
         lines += [f"    {line}" for line in scales(layer.minscaledenom, layer.maxscaledenom, self.options.factor)]
@@ -212,13 +222,13 @@ class LayerWriter:
         made = []
         for step in range(passes - 1):
             below = free_name(f"{name}_below{step + 1}", taken)
-            made.append((below, self.whole(below, self.class_blocks(lambda *one: styles[one][step : step + 1], False), False)))
+            made.append((below, self.whole(below, self.class_blocks(lambda *one: styles[one][step : step + 1], False), self.title() or name, False)))
         if passes > 1:
             self.report.changed(self.place(), f"{passes} layers, as MapServer paints the outer STYLEs of all lines first: ask for {','.join(one for one, _ in made)},{name}")
             top = self.class_blocks(lambda *one: styles[one][passes - 1 :], True)
         else:
             top = self.class_blocks(lambda *one: styles[one], True)
-        return made + [(name, self.whole(name, top, True))]
+        return made + [(name, self.whole(name, top, self.title(), True))]
 
 
 def title_of(kind, part, answered):
