@@ -236,6 +236,14 @@ class Layers(unittest.TestCase):
         ])
         self.assertEqual(self.blocks("roads", {"roads"}, "one"), [("roads", (["one"], True, None, True))])
 
+    def test_a_class_without_a_name_has_the_title_of_its_text(self):
+        writer = layers.LayerWriter.__new__(layers.LayerWriter)
+        writer.is_telling = lambda rule: rule is not None
+        titles = []
+        for text, rule in (('"Local"', "r"), ("Local", None), ('"[name]"', None), ('"[name]"', "r"), ('("a" + "b")', "r"), (None, "r"), (None, None)):
+            titles.append(writer.unnamed_title(SimpleNamespace(number=4, given=SimpleNamespace(getTextString=lambda: text)), rule))
+        self.assertEqual(titles, ["Local", "Local", None, "5", "5", "5", None])
+
     def test_they_have_one_title(self):
         made = self.blocks("roads", {"roads"}, "outer", "inner", metadata={"ows_title": "Streets"})
         self.assertEqual([block[2] for _, block in made], ["Streets", "Streets"])

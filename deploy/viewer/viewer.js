@@ -236,7 +236,8 @@ function goToAddress() {
         return;
     }
     switchLayers(place.names);
-    setExactView(() => map.setView([place.latitude, place.longitude], place.level + (source() === "tiles" ? 1 : 0)));
+    const level = place.level + (source() === "tiles" ? 1 : 0);
+    setExactView(() => map.setView([place.latitude, place.longitude], level, { reset: true }));
     changeLayers();
 }
 
