@@ -61,6 +61,10 @@ class Functions(unittest.TestCase):
                       '(served.formats = ["image/png"], pictureType())')
         self.assertEqual(found, [["image/png", "image/jpeg"], [], "image/jpeg", "image/x-portable-arbitrarymap"])
 
+    def test_a_jpeg_has_the_ground_below_its_layers(self):
+        found = tried('groundOf("image/png")', 'groundOf("image/jpeg")', '(legend.ground = "#0a141e", groundOf("image/jpeg"))', '(legend.ground = "red", groundOf("image/jpeg").BGCOLOR)')
+        self.assertEqual(found, [{"TRANSPARENT": "TRUE"}, {"TRANSPARENT": "FALSE", "BGCOLOR": "0xd8e8f4"}, {"TRANSPARENT": "FALSE", "BGCOLOR": "0x0a141e"}, "0xd8e8f4"])
+
     def test_the_item_that_is_for_drawing_alone(self):
         values = ["3", "3.2", "3.64", "1+3.12", "3.642", "a", "1+"]
         self.assertEqual(tried(*(f'isForDrawing(["class", {json.dumps(value)}])' for value in values)), [True] * 4 + [False] * 3)

@@ -90,6 +90,14 @@ async function ask(parameters, type, signal) {
     return isPicture(type) ? response.arrayBuffer() : response.text();
 }
 
+/** The colour of the ground, as the legend has it, else as viewer.css has it. */
+const groundColour = () => /^#[0-9a-f]{6}$/.test(legend.ground ?? "") ? legend.ground : "#d8e8f4";
+
+/** The parameters of what lies below the layers: nothing where the format has transparency, else the ground. */
+function groundOf(format) {
+    return format === JPEG ? { TRANSPARENT: "FALSE", BGCOLOR: `0x${groundColour().slice(1)}` } : { TRANSPARENT: "TRUE" };
+}
+
 /** The parameters of a picture of a box in degrees. Each system has its own order of the axes. */
 function pictureOf(layers, system, box, width, height) {
     const { west, south, east, north } = box;
@@ -102,7 +110,7 @@ function pictureOf(layers, system, box, width, height) {
         WIDTH: width,
         HEIGHT: height,
         FORMAT: pictureType(),
-        TRANSPARENT: "TRUE",
+        ...groundOf(pictureType()),
     };
 }
 

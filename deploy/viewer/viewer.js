@@ -89,7 +89,9 @@ function showPng(layers, isAgain = false) {
     asked = new AbortController();
     const signal = asked.signal;
     const names = layers.map((layer) => layer.name).join(",");
-    const options = { layers: names, version: "1.3.0", format: pictureType(), transparent: pictureType() === PNG, maxZoom: 18 };
+    // Leaflet has its parameters in small letters
+    const ground = Object.fromEntries(Object.entries(groundOf(pictureType())).map(([word, value]) => [word.toLowerCase(), value]));
+    const options = { layers: names, version: "1.3.0", format: pictureType(), ...ground, maxZoom: 18 };
     const tiles = L.tileLayer.wms(SERVER, { ...options, noWrap: true, bounds: [[-90, -180], [90, 180]] });
     tiles.once("tileerror", async () => {
         try {
@@ -266,9 +268,7 @@ async function readLegend() {
     } catch (error) {
         legend = { layers: {} };
     }
-    if (/^#[0-9a-f]{6}$/.test(legend.ground ?? "")) {
-        document.documentElement.style.setProperty("--ground", legend.ground);
-    }
+    document.documentElement.style.setProperty("--ground", groundColour());
 }
 
 async function begin() {
