@@ -165,10 +165,21 @@ def without_opacity(map):
 
 
 def with_whole_widths(map):
-    """Draws lines and outlines in whole pixels."""
-    for _, style in each_style(map):
-        if style.width > 0:
-            style.width = max(int(style.width + 0.5), 1)
+    """Draws lines and outlines in the whole pixels that convert writes."""
+    from mapconvert import styles
+
+    for layer in (map.getLayer(number) for number in range(map.numlayers)):
+        is_line = layer.type == mapscript.MS_LAYER_LINE
+        for kind in (layer.getClass(at) for at in range(layer.numclasses)):
+            drawn = [style for style in styles_of(kind) if style.width > 0]
+            widths = [style.width for style in drawn]
+            kept = styles.cased(widths, styles.WIDEST) if is_line else [styles.pixels(width, styles.WIDEST) for width in widths]
+            for style, width in zip(drawn, kept):
+                style.width = width
+
+
+def styles_of(kind):
+    return [kind.getStyle(number) for number in range(kind.numstyles)]
 
 
 # What MapServer draws otherwise, in the order in which it is taken away: what differs less then is by this.
