@@ -238,11 +238,23 @@ class Layers(unittest.TestCase):
 
     def test_a_class_without_a_name_has_the_title_of_its_text(self):
         writer = layers.LayerWriter.__new__(layers.LayerWriter)
-        writer.is_telling = lambda rule: rule is not None
+        writer.is_telling, writer.classes = lambda rule: rule is not None, SimpleNamespace(is_computed=False)
         titles = []
         for text, rule in (('"Local"', "r"), ("Local", None), ('"[name]"', None), ('"[name]"', "r"), ('("a" + "b")', "r"), (None, "r"), (None, None)):
             titles.append(writer.unnamed_title(SimpleNamespace(number=4, given=SimpleNamespace(getTextString=lambda: text)), rule))
         self.assertEqual(titles, ["Local", "Local", None, "5", "5", "5", None])
+
+    def test_a_class_by_the_computed_item_has_the_title_of_its_rule_or_its_number(self):
+        writer = layers.LayerWriter.__new__(layers.LayerWriter)
+        ruled = SimpleNamespace(given=SimpleNamespace(getExpressionString=lambda: "/a/"))
+        writer.classes, writer.names, writer.options = SimpleNamespace(is_computed=True, kinds=[ruled]), ["kind", "debt"], SimpleNamespace(open=False)
+        writer.layer = SimpleNamespace(classitem="kind", metadata={"wms_include_items": "kind"})
+        rows = [("/^(oak|ash)/", "^(oak|ash)"), ('"Oak"i', "Oak"), ("{a,b}", "a, b"), ("(length('[kind]') > 3)", "length('kind') > 3"), ("([debt] > 50)", "5"), (None, "others")]
+        for rule, title in rows:
+            kind = SimpleNamespace(number=4, given=SimpleNamespace(getTextString=lambda: None, getExpressionString=lambda: rule))
+            self.assertEqual(writer.unnamed_title(kind, "{5}"), title, rule)
+        writer.layer.classitem = "debt"
+        self.assertEqual(writer.unnamed_title(SimpleNamespace(number=4, given=SimpleNamespace(getTextString=lambda: None, getExpressionString=lambda: "/rich/")), "{5}"), "5")
 
     def test_they_have_one_title(self):
         made = self.blocks("roads", {"roads"}, "outer", "inner", metadata={"ows_title": "Streets"})

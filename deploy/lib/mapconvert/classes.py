@@ -20,6 +20,13 @@ def quoted(text):
     return f"'{text}'" if "'" not in text else '"' + text.replace('"', "'") + '"'
 
 
+def words_of(text):
+    """An EXPRESSION as a title: without the signs round it, and those of its items."""
+    if text.startswith("("):
+        return BRACKETS.sub(lambda found: found[1], text[1:-1]).strip()
+    return text.removesuffix("i")[1:-1].replace(",", ", ") if text.startswith("{") or text.endswith("i") else text[1:-1]
+
+
 def folded_rule(text, item):
     """A rule that compares a text without regard to case; nothing where it is none."""
     return f'("[{item}]" =* {text[:-1]})' if text.startswith('"') and item and '"' not in text[1:-2] else None

@@ -146,15 +146,26 @@ class LayerWriter:
         return lines + ["    END"]
 
     def unnamed_title(self, kind, rule):
-        """The title of a class without one and without a name: its TEXT where that has no item, else its number where its rule tells one."""
+        """The title of a class without one and without a name: its TEXT where that has no item, else its EXPRESSION or, where that tells an item, its number.
+
+        Nothing, where the legend has the EXPRESSION of the rule that is written.
+        """
         text = kind.given.getTextString() or ""
         if text and "[" not in text and not text.startswith("("):
             return texts.label_text(text, {})
+        if self.classes.is_computed:
+            given = kind.given.getExpressionString() or ""
+            rest = "others" if any(one.given.getExpressionString() for one in self.classes.kinds) else None
+            return f"{kind.number + 1}" if self.tells(given) else classes.words_of(given) or rest
         return f"{kind.number + 1}" if self.is_telling(rule) else None
 
     def is_telling(self, rule):
         """Whether a rule, which the legend shows of a class without a name, has an item in it that isn't answered."""
-        if rule is None or self.classes.is_computed:
+        return rule is not None and not self.classes.is_computed and self.tells(rule)
+
+    def tells(self, rule):
+        """Whether a rule has an item in it that isn't answered."""
+        if not rule:
             return False
         named = classes.BRACKETS.findall(rule) if rule.startswith("(") else [self.layer.classitem or ""]
         return not {name.lower() for name in named} <= {name.lower() for name in access.answered(self.layer, self.names, self.options.open)}
