@@ -8,7 +8,9 @@ import loading
 
 # The numbers that MapServer gives these.
 BINDINGS = {"SIZE": 0, "WIDTH": 1, "ANGLE": 2, "COLOR": 3, "OUTLINECOLOR": 4, "OUTLINEWIDTH": 6}
-loading.has_package("mapscript", MS_OFF=0, MS_ON=1, **{f"MS_STYLE_BINDING_{word}": number for word, number in BINDINGS.items()})
+CONSTANTS = {"MS_LAYER_POINT": 0, "MS_LAYER_LINE": 1, "MS_LAYER_POLYGON": 2, "MS_OFF": 0, "MS_ON": 1, "MS_TRUE": 1, "MS_NONE": 0, "MS_SYMBOL_PIXMAP": 1003}
+loading.has_package("mapscript", **CONSTANTS, **{f"MS_STYLE_BINDING_{word}": number for word, number in BINDINGS.items()})
+loading.has_package("PIL", "Image")
 import mapscript
 from mapconvert import bound, classes, layers
 from mapconvert.report import Node, Report

@@ -255,7 +255,7 @@ class Answers(unittest.TestCase):
 Layer 'a'
   Feature 0:
     name = 'x'
-    class = '3.2+14'
+    class = '3.64+14.7'
   Feature 4:
     class = '1'
 Layer 'b'
@@ -266,7 +266,7 @@ Layer 'b'
     class = 'first'
 """
         answer, _ = self.answer("REQUEST=GetFeatureInfo", ("200 OK", "text/plain", text))
-        self.assertEqual(answer[2], text.replace(b"    class = '3.2+14'\n", b"").replace(b"    class = '1'\n", b""))
+        self.assertEqual(answer[2], text.replace(b"    class = '3.64+14.7'\n", b"").replace(b"    class = '1'\n", b""))
 
     def test_bytes_that_no_query_may_have_are_written_in_hexadecimal(self):
         self.assertEqual(self.answer("LAYERS=\u00e4 b", ("200 OK", "text/xml", b""))[1], ["LAYERS=%E4%20b"])

@@ -70,6 +70,44 @@ class Functions(unittest.TestCase):
         self.assertEqual(tried(*(f'isForDrawing(["class", {json.dumps(value)}])' for value in values)), [True] * 4 + [False] * 3)
 
 
+def shown(**given):
+    """What the viewer asks and shows on stand-ins for its page and a server."""
+    script = os.path.join(loading.TOP, "deploy", "tests", "viewer_page.js")
+    ran = subprocess.run([NODE, script], input=json.dumps(given), capture_output=True, text=True)
+    assert ran.returncode == 0, ran.stderr
+    return json.loads(ran.stdout)
+
+
+@unittest.skipUnless(NODE, "node is missing")
+class Whole(unittest.TestCase):
+    """All scripts together."""
+
+    def layers_asked(self, address):
+        return re.search(r"LAYERS=([^&]*)", address)[1].split("%2C")
+
+    def test_the_first_view_is_not_rounded_and_asks_for_no_tiles(self):
+        found = shown()
+        self.assertEqual((found["message"], found["views"], found["hash"]), ("", [[0.8339, 0]], "#0.834/1.00000/2.00000"))
+        self.assertEqual([re.sub(r"[?&].*(REQUEST=\w+).*", r" \1", address) for address in found["asked"]], ["../wms REQUEST=GetCapabilities", "legend.json", "../wms REQUEST=GetMap"])
+        self.assertEqual((found["pointer"], found["formats"]), ("51.3\u00b0 N, 0.5\u00b0 W", ["PNG", "JPEG"]))
+
+    def test_tiles_are_asked_for_where_the_page_says_that_they_are_there(self):
+        for given in ({"tiles": "yes"}, {"search": "?tiles"}):
+            self.assertIn("../tiles/wmts/1.0.0/WMTSCapabilities.xml", shown(**given)["asked"], given)
+
+    def test_a_link_is_shown_at_first_and_in_an_open_page(self):
+        found = shown(hash="#3.3/10/20/lakes", then="#4.25/30/40/roads")
+        self.assertEqual((found["views"], found["hash"]), ([[3.3, 0], [4.25, 0]], "#4.25/30.00000/40.00000/roads_below1,roads"))
+        self.assertEqual([self.layers_asked(address) for address in found["asked"] if "GetMap" in address], [["lakes"], ["roads_below1", "roads"]])
+        # what is no link changes nothing
+        self.assertEqual(shown(hash="#3.3/10/20/lakes", then="#title")["views"], [[3.3, 0]])
+
+    def test_layers_of_one_title_have_one_box_and_classes_that_look_alike_one_line(self):
+        local = {"title": "Local", "picture": "data:a", "takesAll": False}
+        legend = {"layers": {"roads_below1": [{"title": "Local", "picture": "data:b", "takesAll": True}], "roads": [local, {**local, "takesAll": True}]}}
+        self.assertEqual(shown(legend=legend)["layers"], [" Lakes", " Roads", "url(data:b) Local", "url(data:b) Local (hidden)"])
+
+
 class Page(unittest.TestCase):
     def test_it_loads_its_own_scripts_and_leaflet_alone(self):
         with open(os.path.join(VIEWER, "index.html"), encoding="utf-8") as file:

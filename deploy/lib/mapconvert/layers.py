@@ -146,9 +146,9 @@ class LayerWriter:
         return lines + ["    END"]
 
     def unnamed_title(self, kind, rule):
-        """The title of a class without one and without a name: its TEXT where that has no item, else its EXPRESSION or, where that tells an item, its number.
+        """The title of a class that has neither one nor a name; nothing where the legend shows the rule that is written.
 
-        Nothing, where the legend has the EXPRESSION of the rule that is written.
+        It is the TEXT where that has no item, else the EXPRESSION. Where that tells an item that isn't answered it is the number.
         """
         text = kind.given.getTextString() or ""
         if text and "[" not in text and not text.startswith("("):
