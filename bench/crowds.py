@@ -4,8 +4,9 @@
 1,500 clients connect to a server of four workers, and each sends its request 60 ms later: more than the 1,024 for which
 it has slots, so that the others wait. Each is to be answered. Then HALVES clients (1,100 where it isn't given) send one
 byte of a head each, and a new one comes for each that is closed. Meanwhile, for SECONDS (4), honest clients ask: two over
-a connection that they keep, two over a new one each time. None is to be closed without a byte; up to 3,000 halves each new
-one is to be answered within two seconds. Where the system gives this script too few descriptors it ends with 77.
+a connection that they keep, two over a new one each time. None is to be closed without a byte. Up to 3,000 halves each
+new one is to be answered within five seconds; on a machine that does nothing else it takes two. Where the system gives
+this script too few descriptors it ends with 77.
 """
 import os
 import resource
@@ -25,7 +26,7 @@ QUERY = b"VERSION=1.3.0&REQUEST=GetMap&LAYERS=a&STYLES=&CRS=CRS:84&BBOX=0,0,4,4&
 BODY = len(b"P6\n64 64\n255\n") + 3 * 64 * 64
 KEPT = b"GET /wms?" + QUERY + b" HTTP/1.1\r\n\r\n"
 CLOSING = b"GET /wms?" + QUERY + b" HTTP/1.1\r\nConnection: close\r\n\r\n"
-LATE = 2.0  # seconds
+LATE = 5.0  # seconds
 LACKING = 77
 
 
