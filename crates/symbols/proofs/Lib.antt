@@ -1,3 +1,4 @@
+pub mod Alphas
 pub mod Blocks
 pub mod Capping
 pub mod Files

@@ -1,6 +1,6 @@
 //! Laws of the definitions. A law is a function without arguments whose contract states it.
 
-ghost use Rattle.symbols.specs.Law.{AreFilesRead, AreMapsRead, ArePicturesRead};
+ghost use Rattle.symbols.specs.Law.{AreFilesRead, AreMapsRead, ArePicturesRead, AreWrittenAlike};
 
 /// A file that is made from a header, with any white space and any comments between its numbers, and from
 /// pixels is read as these.
@@ -18,4 +18,9 @@ pub fn pictures()
 /// format. The map shows nothing where the picture has nothing, and its colours elsewhere.
 pub fn maps()
     ensures { AreMapsRead }
+{}
+
+/// A picture is written in both formats as it is with its alphas.
+pub fn alphas()
+    ensures { AreWrittenAlike }
 {}
