@@ -5,17 +5,18 @@ use Rattle.std.specs.Prelude.{IfNone, IfSome, MatchBool}
 use Rattle.eventloop.specs.Working.{AreAt, HasGivenWay, HasMadeRoom, HasRunAt, HasTurned, InTime, IsAt}
 use Rattle.turns.proofs.Order.{has-joins, joins-then}
 use Rattle.turns.proofs.Ranks.{neither-pending}
-use Rattle.turns.specs.Pressure.{IsFirst, IsWanted, NoneMay}
+use Rattle.turns.specs.Pressure.{IsFirst, IsWanted, NoneMay, for_room}
 use Rattle.turns.specs.Times.{deadline, is_unanswered}
 use Rattle.turns.specs.declared.pressure.Pressure.{Pressure}
 use Rattle.turns.specs.declared.pressure.Pressure.TheVariants as pressure
 use Rattle.turns.specs.declared.times.Timeouts.{Timeouts}
 use Rattle.httpedge.specs.Exchange.{Said}
+use Rattle.turns.proofs.Lines.{goes-waiting}
 use Rattle.turns.proofs.Runs.{run-none, run-step, runs-then}
 use Rattle.turns.specs.Queue.{has}
 use Rattle.turns.specs.Runs.{Reason, Overdue, Unanswered, Yields, IsReason, Step, Opens, Wakes, Serves, Leaves, IsNew, IsTurnOf, SlotTurn, Steps, Runs, HasRun, WorkerState, turns_of}
 use Rattle.turns.specs.Slots.{at_slot, OthersStay}
-use Rattle.turns.specs.Table.{Goes, connections, ready_slots, waiting_slots, has_room, is_pending, timeouts_of, ClosedOrStayed, LeftOrStayed}
+use Rattle.turns.specs.Table.{Goes, connections, ready_slots, waiting_slots, is_pending, lacks_room, timeouts_of, ClosedOrStayed, LeftOrStayed}
 use Rattle.turns.specs.declared.open_connection.OpenConnection.{OpenConnection}
 use Rattle.turns.specs.declared.served.Closed.{Closed}
 use Rattle.turns.specs.declared.table.ConnectionTable.{ConnectionTable}
@@ -50,18 +51,16 @@ woken-next {T} slots index old between new was same goes here k less known = go 
         rw goes.joins.1 (has-joins (get_or slots k 0) (ready_slots between) goes.joins.0 (was k (omega (arith, less, apart)) known))
 
 pub goes-none : {T : Type 0} (table : ConnectionTable T) → Goes table table
-goes-none table = record { keeps = record { timeouts = refl; room = refl; waiting = λ slot there. inr there }; joins = ([], refl) }
+goes-none table = record { keeps = record { timeouts = refl; room = refl }; small = refl; large = refl; joins = ([], refl) }
 
 pub goes-then : {T : Type 0} (old between new : ConnectionTable T) → Goes old between → Goes between new → Goes old new
 goes-then old between new first last = record {
   keeps = record {
     timeouts = last.keeps.timeouts ∙ first.keeps.timeouts;
     room = last.keeps.room ∙ first.keeps.room;
-    waiting = λ slot there. elim (first.keeps.waiting slot there) [
-      | inl ready ↦ inl (rw last.joins.1 (has-joins slot (ready_slots between) last.joins.0 ready))
-      | inr waits ↦ last.keeps.waiting slot waits
-    ];
   };
+  small = last.small ∙ first.small;
+  large = last.large ∙ first.large;
   joins = joins-then (ready_slots old) (ready_slots between) (ready_slots new) first.joins last.joins;
 }
 
@@ -76,10 +75,9 @@ not-pending old new goes slot none = go (has slot (ready_slots old)) refl (has s
     go true r waits w =
         let there : has slot (ready_slots new) ≡ true = rw goes.joins.1 (has-joins slot (ready_slots old) goes.joins.0 r) in
         absurd (let clash : false ≡ true = sym no_turn ∙ there in cc clash)
-    go false r true w = elim (goes.keeps.waiting slot w) [
-      | inl there ↦ absurd (let clash : false ≡ true = sym no_turn ∙ there in cc clash)
-      | inr there ↦ absurd (let clash : false ≡ true = sym (neither-pending new slot none).1 ∙ there in cc clash)
-    ]
+    go false r true w =
+        let there : has slot (waiting_slots new) ≡ true = goes-waiting old new goes slot w in
+        absurd (let clash : false ≡ true = sym (neither-pending new slot none).1 ∙ there in cc clash)
     go false r false w = rw (r, w) refl
 
 -- one more slot was looked at
@@ -110,11 +108,6 @@ pub unneeded : {X : Type 0} (result : Option X) → IfSome result (λ _. Unit {0
 unneeded None = tt
 unneeded (Some x) = tt
 
--- two facts of a value that is there
-pub both : {X : Type 0} (P Q : Type 0) (result : Option X) → IfSome result (λ _. P) → IfSome result (λ _. Q) → IfSome result (λ _. P × Q)
-both P Q None p q = tt
-both P Q (Some x) p q = (p, q)
-
 -- whether the connection at a slot left it or stayed, all others stay
 pub left-others : {T : Type 0} (slot : ℕ) (result : Option (OpenConnection T)) (old new : ConnectionTable T) → LeftOrStayed slot result old new → OthersStay slot (connections old) (connections new)
 left-others slot None old new same = rw same (λ other apart. refl)
@@ -122,15 +115,14 @@ left-others slot (Some connection) old new left = left.others
 
 -- the slowest reader left, where one may
 pub made-room : {T : Type 0} (now : ℕ) (old new : ConnectionTable T) (result : Option (Closed T)) → Goes old new
-    → IfNone result ((waiting_slots old ≡ []) ⊎ ((has_room old ≡ true) ⊎ NoneMay (pressure.Room now (timeouts_of old).rate) old))
-    → IfSome result (λ closed. IsFirst (pressure.Room now (timeouts_of old).rate) old closed.slot) → IfSome result (λ _. IsWanted (pressure.Room now (timeouts_of old).rate) old)
+    → IfNone result ((lacks_room old ≡ false) ⊎ NoneMay (for_room now old) old) → IfSome result (λ closed. IsFirst (for_room now old) old closed.slot)
+    → IfSome result (λ _. IsWanted (for_room now old) old)
     → ClosedOrStayed result old new → HasMadeRoom now old new
 made-room now old new None goes none first wanted stays = elim none [
   | inl nobody ↦ inl nobody
-  | inr (inl room) ↦ inr (inl room)
-  | inr (inr ranks) ↦ inr (inr (goes, inl (stays, ranks)))
+  | inr ranks ↦ inr (goes, inl (stays, ranks))
 ]
-made-room now old new (Some one) goes none first wanted left = inr (inr (goes, inr (one.slot, first, wanted, left.gone, left.others)))
+made-room now old new (Some one) goes none first wanted left = inr (goes, inr (one.slot, first, wanted, left.gone, left.others))
 
 -- a table, and an answerer
 abbrev with-table : {A T : Type 0} → A → ConnectionTable T → WorkerState A T

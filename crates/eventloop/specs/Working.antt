@@ -2,11 +2,11 @@
 use Rattle.std.specs.List.{All}
 use Rattle.std.specs.Prelude.{◌≡◌, ◌⊎◌, ◌≤◌, ◌<◌, ℕ, List, [], ◌∷◌, length, None, Some, true, false, IfSome}
 use Rattle.httpedge.specs.Exchange.{Said}
-use Rattle.turns.specs.Pressure.{IsFirst, IsWanted, NoneMay}
+use Rattle.turns.specs.Pressure.{IsFirst, IsWanted, NoneMay, for_room}
 use Rattle.turns.specs.Queue.{has}
 use Rattle.turns.specs.Runs.{Reason, Overdue, Unanswered, Yields, Step, Opens, Wakes, Serves, Leaves, Runs, HasRun, WorkerState, turns_of}
 use Rattle.turns.specs.Slots.{at_slot, OthersStay}
-use Rattle.turns.specs.Table.{Goes, connections, ready_slots, waiting_slots, timeouts_of, has_room, is_pending}
+use Rattle.turns.specs.Table.{Goes, connections, ready_slots, timeouts_of, is_pending, lacks_room}
 use Rattle.turns.specs.Times.{deadline}
 use Rattle.turns.specs.declared.open_connection.OpenConnection.{OpenConnection}
 use Rattle.turns.specs.declared.pressure.Pressure.{Pressure}
@@ -42,9 +42,9 @@ pub record HasLooked {T : Type 0} (now : ℕ) (old new : ConnectionTable T) : Ty
   pub goes : Goes old new
   pub in_time : InTime now (length (connections old)) new
 
--- nobody waited for room, there was room, or the slowest reader left, if one may
+-- nobody waited for room in vain, or the slowest reader left, if one may
 abbrev pub HasMadeRoom : {T : Type 0} → ℕ → ConnectionTable T → ConnectionTable T → Type 0
-HasMadeRoom now old new = (waiting_slots old ≡ []) ⊎ ((has_room old ≡ true) ⊎ HasGivenWay (pressure.Room now (timeouts_of old).rate) old new)
+HasMadeRoom now old new = (lacks_room old ≡ false) ⊎ HasGivenWay (for_room now old) old new
 
 -- these slots have a turn, of those that there are
 abbrev pub HaveTurns : {T : Type 0} → List ℕ → ConnectionTable T → ConnectionTable T → Type 0
@@ -62,7 +62,7 @@ abbrev pub IsAt : ℕ → Reason → Type 0
 IsAt now (Overdue moment) = moment ≡ now
 IsAt now Unanswered = Unit {0}
 IsAt now (Yields (pressure.Slot moment)) = moment ≡ now
-IsAt now (Yields (pressure.Room moment rate)) = moment ≡ now
+IsAt now (Yields (pressure.Room moment rate patience)) = moment ≡ now
 
 -- these steps begin at a moment
 abbrev pub AreAt : {T : Type 0} → ℕ → List (Step T) → Type 0

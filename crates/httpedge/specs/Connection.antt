@@ -40,6 +40,11 @@ abbrev pub target_of : Progress → List ℕ
 target_of (Open came) = []
 target_of (Decided closes decided target) = target
 
+-- bytes of a head came that isn't whole yet
+abbrev pub has_begun : Progress → Bool
+has_begun (Open came) = not (length came == 0)
+has_begun (Decided closes decided target) = false
+
 -- the bytes begin with no head, and are fewer than a head may have
 abbrev pub LeavesOpen : List ℕ → Type 0
 LeavesOpen came = HasNoHead came × (length came < 16384)

@@ -1,6 +1,6 @@
 ghost use Rattle.std.specs.Prelude.{◌≡◌, IfOk, []};
 ghost use Rattle.std.specs.List.{after_first};
-ghost use Rattle.httpedge.specs.Connection.{Open, Feeds, Ends, step_of, target_of, is_closing, goes_on, settled};
+ghost use Rattle.httpedge.specs.Connection.{Open, Feeds, Ends, step_of, target_of, is_closing, goes_on, has_begun, settled};
 ghost use Rattle.httpedge.specs.Meaning.{is_question_mark};
 
 use crate::Decision;
@@ -74,6 +74,13 @@ impl Conn {
     {
         self.received.end();
         self.received.decision
+    }
+
+    /// Whether bytes of a head came that isn't whole yet.
+    pub fn has_begun(&self) -> bool
+        ensures { result ≡ has_begun self.now.progress }
+    {
+        self.received.decision.is_none() && !self.received.bytes.is_empty()
     }
 
     /// The target of the head that decided, as it was sent. It is empty where nothing is decided, or no head came.

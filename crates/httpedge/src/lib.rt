@@ -8,7 +8,8 @@
 //! gives the meaning of the bytes that came. `respond` writes an outcome. A stream and outcomes have one text, and
 //! heads that don't end the connection are answered as each alone (`laws`). A `Session` is a connection without its
 //! stream, for callers that can't wait: what it has sent answers what it was fed (`Session::feed`, `Session::sent`,
-//! `laws::session_answers`), however both are cut.
+//! `laws::session_answers`), however both are cut. `reckoned_bytes` says before a query is asked how many bytes its answer
+//! has at most, about.
 //!
 //! Terms: a *head* is what `httparse` reads as a request. The first *turn* of the rest of a stream is what it
 //! requests first: a *meaning*, and whether the connection goes on. A meaning is nothing, a *refusal*, or a *query*,
@@ -25,6 +26,7 @@ pub mod laws;
 mod outcome;
 mod outgoing;
 mod received;
+mod reckoning;
 mod refusal;
 mod response;
 mod session;
@@ -36,6 +38,7 @@ pub use conn::{Conn, Fed};
 pub use decision::Decision;
 pub use edge::{EdgeFault, exchange};
 pub use outcome::Outcome;
+pub use reckoning::reckoned_bytes;
 pub use refusal::Refusal;
 pub use response::respond;
 pub use session::Session;

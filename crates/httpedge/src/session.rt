@@ -1,5 +1,5 @@
 ghost use Rattle.std.specs.Prelude.{◌≡◌, ◌≤◌, ◌++◌, [], ℕ, List, Bool, Some, true, false, ◌==◌, length, take, drop, IfOk, OnOk};
-ghost use Rattle.httpedge.specs.Connection.{step_of, target_of, is_closing};
+ghost use Rattle.httpedge.specs.Connection.{has_begun, step_of, target_of, is_closing};
 ghost use Rattle.httpedge.specs.Exchange.{Said, IsReply, IsExchange};
 ghost use Rattle.httpedge.specs.Head.{IsTargetOf};
 ghost use Rattle.httpedge.specs.Meaning.{decision_meaning};
@@ -108,6 +108,13 @@ impl Session {
         ensures { result ≡ is_done self.now }
     {
         !matches!(self.stage, Stage::Reading) && self.outgoing.is_empty()
+    }
+
+    /// Whether bytes of a head were taken that isn't whole yet.
+    pub fn has_begun(&self) -> bool
+        ensures { result ≡ has_begun self.now.course.progress }
+    {
+        self.conn.has_begun()
     }
 
     /// Takes bytes of a piece where it takes further ones, and returns how many: all, or those up to the end of a head, which is

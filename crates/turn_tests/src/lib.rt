@@ -15,6 +15,8 @@ mod fakes;
 #[cfg(test)]
 mod logs;
 #[cfg(test)]
+mod room;
+#[cfg(test)]
 mod slow_answers;
 #[cfg(test)]
 mod stopping;

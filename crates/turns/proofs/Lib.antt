@@ -1,4 +1,5 @@
 pub mod Advancing
+pub mod Lines
 pub mod Order
 pub mod Ranks
 pub mod Runs

@@ -9,7 +9,7 @@ use Rattle.std.proofs.lemmas.List.Folds.{list_any-append}
 use Rattle.turns.specs.Queue.{Queue, has, joined, joins, is_set, is_distinct, IsMarked, Event, Ready, Serve, served, before, Fair}
 
 -- both parts of a conjunction hold
-both : (a b : Bool) → (a && b) ≡ true → (a ≡ true) × (b ≡ true)
+pub both : (a b : Bool) → (a && b) ≡ true → (a ≡ true) × (b ≡ true)
 both true b e = (refl, e)
 both false b e = absurd (cc)
 
@@ -136,6 +136,11 @@ marked-rest marks slot queue fits distinct marked one = go (slot == one) refl
         let is : has one queue ≡ get_or marks one false = rw e at (marked one) in
         is ∙ sym (get_or-set_other marks slot one false false (λ same. eqb-false slot one e (sym same)))
 
+-- a list that has a first element
+pub first-is : (xs : List ℕ) (x : ℕ) → 0 < length xs → x ≡ get_or xs 0 x → (rest : List ℕ) × (xs ≡ x ∷ rest)
+first-is [] x some is = absurd (omega (arith, some))
+first-is (y ∷ ys) x some is = (ys, ap (λ h. h ∷ ys) (sym is))
+
 -- a slot comes to a queue, if there is such a slot
 pub add-joins : (old new : Queue) (slot : ℕ) → (slot < old.slots → new ≡ record old { order = joined old.order slot }) → (old.slots ≤ slot → new ≡ old) → (slots : List ℕ) × (new.order ≡ joins old.order slots)
 add-joins old new slot comes stays = elim (cases_lt slot old.slots) [
@@ -158,6 +163,26 @@ has-joined slot one queue there = go (has one queue) refl
 pub has-joins : (slot : ℕ) (queue ones : List ℕ) → has slot queue ≡ true → has slot (joins queue ones) ≡ true
 has-joins slot queue [] there = there
 has-joins slot queue (one ∷ ones) there = has-joins slot (joined queue one) ones (has-joined slot one queue there)
+
+-- the slots before one in a queue are the same while others come
+before-more : (slot : ℕ) (queue more : List ℕ) → has slot queue ≡ true → before slot (queue ++ more) ≡ before slot queue
+before-more slot [] more there = absurd (cc there)
+before-more slot (x ∷ xs) more there = go (λ h. before-more slot xs more h) (x == slot) refl
+  where
+    go : (has slot xs ≡ true → before slot (xs ++ more) ≡ before slot xs) → (b : Bool) → (x == slot) ≡ b → before slot ((x ∷ xs) ++ more) ≡ before slot (x ∷ xs)
+    go further true e = rw e refl
+    go further false e = rw e (ap (λ l. x ∷ l) (further (rw e at there)))
+
+pub before-joined : (slot one : ℕ) (queue : List ℕ) → has slot queue ≡ true → before slot (joined queue one) ≡ before slot queue
+before-joined slot one queue there = go (has one queue) refl
+  where
+    go : (b : Bool) → has one queue ≡ b → before slot (joined queue one) ≡ before slot queue
+    go true e = rw e refl
+    go false e = rw e (before-more slot queue (one ∷ []) there)
+
+pub before-joins : (slot : ℕ) (queue ones : List ℕ) → has slot queue ≡ true → before slot (joins queue ones) ≡ before slot queue
+before-joins slot queue [] there = refl
+before-joins slot queue (one ∷ ones) there = before-joins slot (joined queue one) ones (has-joined slot one queue there) ∙ before-joined slot one queue there
 
 joins-append : (queue ones others : List ℕ) → joins (joins queue ones) others ≡ joins queue (ones ++ others)
 joins-append queue [] others = refl

@@ -1,19 +1,23 @@
 -- Runs of a table of connections.
 use Rattle.std.proofs.Common.{◌≡◌, ◌∙◌, ◌⊎◌, inl, inr, ℕ, List, [], ◌∷◌, ◌++◌, Bool, true, false, ◌==◌, Option, None, Some, option_map, ◌<◌, suc, length, arith, refl, sym, ap, subst, append_assoc, append-nil}
 use Rattle.std.proofs.KnownBytes.{Appends-nil, Appends-trans}
-use Rattle.std.proofs.lemmas.Bool.{eqb-true, eqb-false, eq-eqb, ne_eqb}
+use Rattle.std.proofs.lemmas.Bool.{eqb-true, eqb-false, eq-eqb, ltb-true, ne_eqb}
 use Rattle.std.specs.Prelude.{◌≤◌, IfNone, IfSome, nat_lt, if◌then◌else◌, unwrap_or}
 use Rattle.httpedge.specs.Exchange.{Said}
 use Rattle.httpedge.specs.Session.{QueryOutcome, HasAsked, HasRespondedWith, SessionState, new_session}
 use Rattle.turns.specs.Advancing.{IsNext, HasServed}
 use Rattle.turns.specs.Connection.{ConnectionState, IsTurn, TurnTerms, connection_state, next_by}
 use Rattle.turns.specs.Drain.{next_drained, phase_drained}
-use Rattle.turns.proofs.Order.{has-joined, has-joins}
+use Rattle.turns.proofs.Lines.{before-after, before-on, before-passed, goes-line, goes-waiting, has-still, or-right, same-size, still-waits, waits-on}
+use Rattle.turns.proofs.Order.{before-joins, both, has-joins}
 use Rattle.turns.proofs.Ranks.{neither-pending, yields-without-turn}
-use Rattle.turns.specs.Queue.{has, joined, joins, before}
-use Rattle.turns.specs.Runs.{Reason, Overdue, Unanswered, Yields, IsReason, KeepsUntilServed, ends_of, Step, Opens, Wakes, Serves, Leaves, IsNew, SlotTurn, IsTurnOf, Steps, Runs, WorkerState, comes, all_come, AreSaid, IsAnswered, IsQuiet, IsKept, RunsAnswer, RunsServe, TurnsStay, HasRun, turns_of}
+use Rattle.turns.specs.Queue.{has, joins, before}
+use Rattle.turns.specs.Room.{is_next, is_size, line_after, waits_for}
+use Rattle.turns.specs.Runs.{Reason, Overdue, Unanswered, Yields, IsReason, KeepsUntilServed, ends_of, Step, Opens, Wakes, Serves, Leaves, IsNew, SlotTurn, IsTurnOf, Steps, Runs, WorkerState, comes, all_come, AreSaid, IsAnswered, IsQuiet, IsKept, RoomInvites, RoomServes, RunsAnswer, RunsServe, TurnsStay, HasRun, given_of, turns_of}
 use Rattle.turns.specs.Slots.{SlotState, at_slot, slot_state, HasTurn}
-use Rattle.turns.specs.Table.{Goes, connections, ready_slots, waiting_slots, terms_at, KeepsWaiting}
+use Rattle.turns.specs.Table.{Goes, connections, given_at, may_ask_at, ready_slots, size_at, waiting_for, waiting_slots, terms_at}
+use Rattle.turns.specs.declared.answer_size.AnswerSize.{AnswerSize}
+use Rattle.turns.specs.declared.answer_size.AnswerSize.TheVariants.{Small, Large}
 use Rattle.turns.specs.Times.{is_over, is_draining}
 use Rattle.turns.specs.declared.open_connection.OpenConnection.{OpenConnection}
 use Rattle.turns.specs.declared.outcomes.ReadOutcome.{ReadOutcome}
@@ -24,26 +28,6 @@ use Rattle.turns.specs.declared.turn.Next.{Next}
 use Rattle.turns.specs.declared.open_connection.TurnEnd.{TurnEnd}
 use Rattle.turns.specs.declared.turn.Next.TheVariants as next
 use Rattle.turns.specs.declared.transport.Transport.{Ghosts as Transport}
-
--- the slots before one in a queue are the same while others come
-before-more : (slot : ℕ) (queue more : List ℕ) → has slot queue ≡ true → before slot (queue ++ more) ≡ before slot queue
-before-more slot [] more there = absurd (cc there)
-before-more slot (x ∷ xs) more there = go (λ h. before-more slot xs more h) (x == slot) refl
-  where
-    go : (has slot xs ≡ true → before slot (xs ++ more) ≡ before slot xs) → (b : Bool) → (x == slot) ≡ b → before slot ((x ∷ xs) ++ more) ≡ before slot (x ∷ xs)
-    go further true e = rw e refl
-    go further false e = rw e (ap (λ l. x ∷ l) (further (rw e at there)))
-
-before-joined : (slot one : ℕ) (queue : List ℕ) → has slot queue ≡ true → before slot (joined queue one) ≡ before slot queue
-before-joined slot one queue there = go (has one queue) refl
-  where
-    go : (b : Bool) → has one queue ≡ b → before slot (joined queue one) ≡ before slot queue
-    go true e = rw e refl
-    go false e = rw e (before-more slot queue (one ∷ []) there)
-
-before-joins : (slot : ℕ) (queue ones : List ℕ) → has slot queue ≡ true → before slot (joins queue ones) ≡ before slot queue
-before-joins slot queue [] there = refl
-before-joins slot queue (one ∷ ones) there = before-joins slot (joined queue one) ones (has-joined slot one queue there) ∙ before-joined slot one queue there
 
 -- one that isn't the first is behind it
 has-rest : (slot first : ℕ) (rest : List ℕ) → (slot ≡ first → ⊥) → has slot (first ∷ rest) ≡ true → has slot rest ≡ true
@@ -171,20 +155,32 @@ module _ {A T : Type 0} (answers : A → List ℕ → Said → A → Type 0) (kn
 
   -- a connection that stays where it is is still held
   still : (found later : ℕ → Option (OpenConnection T)) (old new : ConnectionTable T) (slot : ℕ) (now : OpenConnection T) → later slot ≡ found slot
-      → (has slot (ready_slots old) ≡ true → has slot (ready_slots new) ≡ true) → KeepsWaiting old new
+      → (has slot (ready_slots old) ≡ true → has slot (ready_slots new) ≡ true) → (has slot (waiting_slots old) ≡ true → has slot (waiting_slots new) ≡ true)
       → IsKept answers known found old slot now → IsKept answers known later new slot now
   still found later old new slot now same ready keeps was = record { first = was.first; came = same ∙ was.came; answered = was.answered; held = go was.held }
     where
       go : (has slot (ready_slots old) ≡ true) ⊎ ((has slot (waiting_slots old) ≡ true) ⊎ IsQuiet known now) → (has slot (ready_slots new) ≡ true) ⊎ ((has slot (waiting_slots new) ≡ true) ⊎ IsQuiet known now)
       go (inl there) = inl (ready there)
-      go (inr (inl waits)) = elim (keeps.waiting slot waits) [
-        | inl there ↦ inl there
-        | inr waits ↦ inr (inl waits)
-      ]
+      go (inr (inl waits)) = inr (inl (keeps waits))
       go (inr (inr quiet)) = inr (inr quiet)
 
   goes-ready : (old new : ConnectionTable T) → Goes old new → (slot : ℕ) → has slot (ready_slots old) ≡ true → has slot (ready_slots new) ≡ true
   goes-ready old new goes slot there = rw goes.joins.1 (has-joins slot (ready_slots old) goes.joins.0 there)
+
+  -- those that wait for room after a turn
+  turn-line : (size : AnswerSize) (old new : WorkerState A T) (turn : SlotTurn) → IsTurnOf answers known old turn new
+      → waiting_for size new.table ≡ line_after turn.slot (may_ask_at old.table turn.slot) (is_size size (waits_for turn.next (size_at new.table turn.slot))) (waiting_for size old.table)
+  turn-line Small old new turn had = had.small
+  turn-line Large old new turn had = had.large
+
+  -- after a turn of another slot a slot waits as before
+  turn-waiting : (old new : WorkerState A T) (turn : SlotTurn) → IsTurnOf answers known old turn new → (slot : ℕ) → (slot ≡ turn.slot → ⊥)
+      → has slot (waiting_slots old.table) ≡ true → has slot (waiting_slots new.table) ≡ true
+  turn-waiting old new turn had slot apart there =
+      has-still slot (waiting_for Small old.table) (waiting_for Large old.table) (waiting_for Small new.table) (waiting_for Large new.table)
+      (λ h. subst (λ (l : List ℕ). has slot l ≡ true) (sym had.small) (still-waits slot turn.slot _ _ (waiting_for Small old.table) apart h))
+      (λ h. subst (λ (l : List ℕ). has slot l ≡ true) (sym had.large) (still-waits slot turn.slot _ _ (waiting_for Large old.table) apart h))
+      there
 
   step-keeps : HasRespondedWith [] [] [] new_session → (found : ℕ → Option (OpenConnection T)) (old new : WorkerState A T) (step : Step T)
       → Steps answers known old step new → Kept found old.table → Kept (comes found step) new.table
@@ -202,37 +198,34 @@ module _ {A T : Type 0} (answers : A → List ℕ → Said → A → Type 0) (kn
           }
       go false e =
           let apart : other ≡ slot → ⊥ = λ equal. eqb-false slot other e (sym equal) in
-          still found (comes found (Opens slot connection)) old.table new.table other now (rw e refl) (goes-ready old.table new.table goes other) goes.keeps (kept other now (sym (others other apart) ∙ at))
+          still found (comes found (Opens slot connection)) old.table new.table other now (rw e refl) (goes-ready old.table new.table goes other) (goes-waiting old.table new.table goes other) (kept other now (sym (others other apart) ∙ at))
   step-keeps starts found old new (Wakes slot) (same, stay, goes) kept other now at =
-      still found (comes found (Wakes slot)) old.table new.table other now refl (goes-ready old.table new.table goes other) goes.keeps (kept other now (ap (λ l. at_slot l other) (sym stay) ∙ at))
+      still found (comes found (Wakes slot)) old.table new.table other now refl (goes-ready old.table new.table goes other) (goes-waiting old.table new.table goes other) (kept other now (ap (λ l. at_slot l other) (sym stay) ∙ at))
   step-keeps starts found old new (Leaves slot why) (same, reason, gone, others, goes) kept other now at = go (slot == other) refl
     where
       go : (b : Bool) → (slot == other) ≡ b → IsKept answers known (comes found (Leaves slot why)) new.table other now
       go true e = let equal : slot ≡ other = eqb-true slot other e in absurd (let none : ◌≡◌ {A = Option (OpenConnection T)} None (Some now) = sym (ap (at_slot (connections new.table)) (sym equal) ∙ gone) ∙ at in cc none)
       go false e =
           let apart : other ≡ slot → ⊥ = λ equal. eqb-false slot other e (sym equal) in
-          still found (comes found (Leaves slot why)) old.table new.table other now refl (goes-ready old.table new.table goes other) goes.keeps (kept other now (sym (others other apart) ∙ at))
+          still found (comes found (Leaves slot why)) old.table new.table other now refl (goes-ready old.table new.table goes other) (goes-waiting old.table new.table goes other) (kept other now (sym (others other apart) ∙ at))
   step-keeps starts found old new (Serves turn) had kept other now at = go (turn.slot == other) refl
     where
-      own : (r : Option Next) → turn.next ≡ r → turn.slot ≡ other → IfSome r (λ next. HasTurn answers known (terms_at old.table turn.ended) (slot_state (connections old.table) turn.slot old.asks) (slot_state (connections new.table) turn.slot new.asks) next)
+      own : (r : Option Next) → turn.next ≡ r → turn.slot ≡ other → IfSome r (λ next. HasTurn answers known (terms_at old.table turn.slot turn.ended) (slot_state (connections old.table) turn.slot old.asks) (slot_state (connections new.table) turn.slot new.asks) next)
           → IfNone r ((connections new.table ≡ connections old.table) × (new.asks ≡ old.asks)) → IfNone r (at_slot (connections old.table) turn.slot ≡ None)
           → IsKept answers known (comes found (Serves turn)) new.table other now
       own None none equal nothing (stay, still_asks) free = absurd (let clash : ◌≡◌ {A = Option (OpenConnection T)} None (Some now) = sym free ∙ ap (at_slot (connections old.table)) equal ∙ ap (λ l. at_slot l other) (sym stay) ∙ at in cc clash)
       own (Some next) is equal one nobody empty =
           let same : one.after ≡ now = cc (one.is, at, equal) in
           let before = kept turn.slot one.before one.was in
-          let held : (has turn.slot (ready_slots new.table) ≡ true) ⊎ ((has turn.slot (waiting_slots new.table) ≡ true) ⊎ IsQuiet known one.after) = elim (turn-held (terms_at old.table turn.ended) (connection_state one.before old.asks) (connection_state one.after new.asks) next one.turn) [
+          let held : (has turn.slot (ready_slots new.table) ≡ true) ⊎ ((has turn.slot (waiting_slots new.table) ≡ true) ⊎ IsQuiet known one.after) = elim (turn-held (terms_at old.table turn.slot turn.ended) (connection_state one.before old.asks) (connection_state one.after new.asks) next one.turn) [
             | inl again ↦ inl (had.turns (is ∙ ap Some again))
-            | inr (inl room) ↦ elim (had.waits (is ∙ ap Some room)) [
-              | inl ready ↦ inl ready
-              | inr waits ↦ inr (inl waits)
-            ]
+            | inr (inl room) ↦ inr (inl (had.waits (is ∙ ap Some room)))
             | inr (inr quiet) ↦ inr (inr quiet)
           ] in
           let all : IsKept answers known found new.table turn.slot one.after = record {
             first = before.first;
             came = before.came;
-            answered = turn-answered (terms_at old.table turn.ended) before.first (connection_state one.before old.asks) (connection_state one.after new.asks) next before.answered one.turn;
+            answered = turn-answered (terms_at old.table turn.slot turn.ended) before.first (connection_state one.before old.asks) (connection_state one.after new.asks) next before.answered one.turn;
             held = held;
           } in
           subst (λ (k : ℕ). IsKept answers known found new.table k now) equal (subst (λ (c : OpenConnection T). IsKept answers known found new.table turn.slot c) same all)
@@ -242,7 +235,7 @@ module _ {A T : Type 0} (answers : A → List ℕ → Said → A → Type 0) (kn
       go false e =
           let apart : other ≡ turn.slot → ⊥ = λ equal. eqb-false turn.slot other e (sym equal) in
           let ready : has other (ready_slots old.table) ≡ true → has other (ready_slots new.table) ≡ true = λ there. rw had.later (has-joins other had.rest had.slots (has-rest other turn.slot had.rest apart (rw had.first at there))) in
-          still found (comes found (Serves turn)) old.table new.table other now refl ready had.keeps (kept other now (sym (had.others other apart) ∙ at))
+          still found (comes found (Serves turn)) old.table new.table other now refl ready (turn-waiting old new turn had other apart) (kept other now (sym (had.others other apart) ∙ at))
 
   runs-keep : HasRespondedWith [] [] [] new_session → (found : ℕ → Option (OpenConnection T)) (old new : WorkerState A T) (steps : List (Step T))
       → Runs answers known old steps new → Kept found old.table → Kept (all_come found steps) new.table
@@ -277,6 +270,87 @@ module _ {A T : Type 0} (answers : A → List ℕ → Said → A → Type 0) (kn
           let one : length (before slot (turn.slot ∷ had.rest)) < suc (length (turns_of steps)) = rw had.first at less in
           let fewer : length (before slot had.rest) < length (turns_of steps) = omega (arith, rw e at one) in
           rw e (further (rw had.later (has-joins slot had.rest had.slots behind)) (rw (had.later, before-joins slot had.rest had.slots behind) fewer))
+
+  -- a slot was given room
+  abbrev Given : ℕ → List (Step T) → Type 0
+  Given slot steps = (has slot (given_of Small steps) ≡ true) ⊎ (has slot (given_of Large steps) ≡ true)
+
+  given-more : (size : AnswerSize) (turn : SlotTurn) (slot : ℕ) (steps : List (Step T)) → has slot (given_of size steps) ≡ true → has slot (given_of size (Serves turn ∷ steps)) ≡ true
+  given-more size turn slot steps given = go (is_size size turn.given) refl
+    where
+      go : (b : Bool) → is_size size turn.given ≡ b → has slot (given_of size (Serves turn ∷ steps)) ≡ true
+      go true e = rw e (or-right (turn.slot == slot) (has slot (given_of size steps)) given)
+      go false e = rw e given
+
+  more-given : (turn : SlotTurn) (slot : ℕ) (steps : List (Step T)) → Given slot steps → Given slot (Serves turn ∷ steps)
+  more-given turn slot steps (inl given) = inl (given-more Small turn slot steps given)
+  more-given turn slot steps (inr given) = inr (given-more Large turn slot steps given)
+
+  own-given : (size : AnswerSize) (turn : SlotTurn) (slot : ℕ) (steps : List (Step T)) → turn.given ≡ Some size → turn.slot ≡ slot → Given slot (Serves turn ∷ steps)
+  own-given Small turn slot steps is equal = inl (rw is (rw (eq-eqb turn.slot slot equal) refl))
+  own-given Large turn slot steps is equal = inr (rw is (rw (eq-eqb turn.slot slot equal) refl))
+
+  line-stays : (size : AnswerSize) (old new : ConnectionTable T) (slot count : ℕ) (P : Type 0) → Goes old new → has slot (waiting_for size old) ≡ true
+      → length (before slot (waiting_for size old)) < count → (has slot (waiting_for size new) ≡ true → length (before slot (waiting_for size new)) < count → P) → P
+  line-stays size old new slot count P goes there less next =
+      next (subst (λ (l : List ℕ). has slot l ≡ true) (sym (goes-line size old new goes)) there) (subst (λ (l : List ℕ). length (before slot l) < count) (sym (goes-line size old new goes)) less)
+
+  -- who is given room is the next for an answer of its size
+  given-next : (size : AnswerSize) (table : ConnectionTable T) (slot : ℕ) → may_ask_at table slot ≡ true → is_size size (given_at table slot) ≡ true → is_next slot (waiting_for size table) ≡ true
+  given-next size table slot asks given =
+      let is : is_size size (Some (size_at table slot)) ≡ true = rw asks at given in
+      let next : is_next slot (waiting_for (size_at table slot) table) ≡ true = (both _ _ asks).1 in
+      subst (λ (s : AnswerSize). is_next slot (waiting_for s table) ≡ true) (same-size size (size_at table slot) is) next
+
+  pub room-serves : RoomServes answers known
+  room-serves size first last [] runs slot there less = absurd (omega (arith, less))
+  room-serves size first last (Opens at connection ∷ steps) (between, (same, fresh, free, here, others, ready, goes), rest) slot there less =
+      line-stays size first.table between.table slot (length (given_of size steps)) _ goes there less (λ h l. room-serves size between last steps rest slot h l)
+  room-serves size first last (Wakes at ∷ steps) (between, (same, stay, goes), rest) slot there less =
+      line-stays size first.table between.table slot (length (given_of size steps)) _ goes there less (λ h l. room-serves size between last steps rest slot h l)
+  room-serves size first last (Leaves at why ∷ steps) (between, (same, reason, gone, others, goes), rest) slot there less =
+      line-stays size first.table between.table slot (length (given_of size steps)) _ goes there less (λ h l. room-serves size between last steps rest slot h l)
+  room-serves size first last (Serves turn ∷ steps) (between, had, rest) slot there less =
+      go (λ h l. room-serves size between last steps rest slot h l) (may_ask_at first.table turn.slot) refl (turn.slot == slot) refl
+    where
+      line : List ℕ
+      line = waiting_for size first.table
+
+      waits : Bool
+      waits = is_size size (waits_for turn.next (size_at between.table turn.slot))
+
+      later : (asks : Bool) → may_ask_at first.table turn.slot ≡ asks → line_after turn.slot asks waits line ≡ waiting_for size between.table
+      later asks e = sym (turn-line size first between turn had ∙ ap (λ b. line_after turn.slot b waits line) e)
+
+      given : (asks : Bool) → may_ask_at first.table turn.slot ≡ asks → turn.given ≡ (if asks then Some (size_at first.table turn.slot) else None)
+      given asks e = had.given ∙ ap (λ b. if b then Some (size_at first.table turn.slot) else None) e
+
+      go : (has slot (waiting_for size between.table) ≡ true → length (before slot (waiting_for size between.table)) < length (given_of size steps) → Given slot steps)
+          → (asks : Bool) → may_ask_at first.table turn.slot ≡ asks → (b : Bool) → (turn.slot == slot) ≡ b → Given slot (Serves turn ∷ steps)
+      go further false a b e =
+          let count : length (before slot line) < length (given_of size steps) = rw (given false a) at less in
+          more-given turn slot steps (further
+          (subst (λ (l : List ℕ). has slot l ≡ true) (later false a) (waits-on slot turn.slot waits line there))
+          (subst (λ (l : List ℕ). length (before slot l) < length (given_of size steps)) (later false a) (rw (before-on slot turn.slot waits line there) count)))
+      go further true a true e = own-given (size_at first.table turn.slot) turn slot steps (given true a) (eqb-true turn.slot slot e)
+      go further true a false e = pick (is_size size turn.given) refl
+        where
+          apart : slot ≡ turn.slot → ⊥
+          apart equal = eqb-false turn.slot slot e (sym equal)
+
+          there_still : has slot (waiting_for size between.table) ≡ true
+          there_still = subst (λ (l : List ℕ). has slot l ≡ true) (later true a) (still-waits slot turn.slot true waits line apart there)
+
+          pick : (b : Bool) → is_size size turn.given ≡ b → Given slot (Serves turn ∷ steps)
+          pick true g =
+              let next : is_next turn.slot line ≡ true = given-next size first.table turn.slot a (subst (λ (o : Option AnswerSize). is_size size o ≡ true) had.given g) in
+              let fewer = before-passed slot turn.slot waits line apart there next in
+              let count : length (before slot line) < suc (length (given_of size steps)) = rw g at less in
+              more-given turn slot steps (further there_still (subst (λ (l : List ℕ). length (before slot l) < length (given_of size steps)) (later true a) (omega (arith, fewer, count))))
+          pick false g =
+              let fewer = before-after slot turn.slot waits line apart there in
+              let count : length (before slot line) < length (given_of size steps) = rw g at less in
+              more-given turn slot steps (further there_still (subst (λ (l : List ℕ). length (before slot l) < length (given_of size steps)) (later true a) (omega (arith, fewer, count))))
 
   pub turns-stay : TurnsStay answers known
   turns-stay first last [] (same, still_asks) slot there = inr (rw same there)
@@ -363,10 +437,10 @@ module _ {A T : Type 0} (answers : A → List ℕ → Said → A → Type 0) (kn
   pub turned-asks : (old new : WorkerState A T) (turn : SlotTurn) → IsTurnOf answers known old turn new → (queries : List QueryOutcome) × HasAsked answers old.asks queries new.asks
   turned-asks old new turn had = go turn.next had.own had.nobody
     where
-      go : (r : Option Next) → IfSome r (λ next. HasTurn answers known (terms_at old.table turn.ended) (slot_state (connections old.table) turn.slot old.asks) (slot_state (connections new.table) turn.slot new.asks) next)
+      go : (r : Option Next) → IfSome r (λ next. HasTurn answers known (terms_at old.table turn.slot turn.ended) (slot_state (connections old.table) turn.slot old.asks) (slot_state (connections new.table) turn.slot new.asks) next)
           → IfNone r ((connections new.table ≡ connections old.table) × (new.asks ≡ old.asks)) → (queries : List QueryOutcome) × HasAsked answers old.asks queries new.asks
       go None own (same, still) = ([], inl (refl, still))
-      go (Some next) own nobody = turn-asks (terms_at old.table turn.ended) (connection_state own.before old.asks) (connection_state own.after new.asks) next own.turn
+      go (Some next) own nobody = turn-asks (terms_at old.table turn.slot turn.ended) (connection_state own.before old.asks) (connection_state own.after new.asks) next own.turn
 
   -- nothing was done
   pub run-none : (state : WorkerState A T) → HasRun answers known state state
@@ -396,6 +470,17 @@ module _ {A T : Type 0} (answers : A → List ℕ → Said → A → Type 0) (kn
       → IfSome (option_map (λ t. t.next) turned) (λ next. HasTurn answers known (terms (unwrap_or (option_map (λ t. t.ended) turned) began)) old new next)
   own-by terms began old new None own = tt
   own-by terms began old new (Some turned) own = own
+
+-- the terms of a turn say whether a query might be answered in it
+pub own-terms : {A T : Type 0} (answers : A → List ℕ → Said → A → Type 0) (known : Transport T) (asks : Bool) (table : ConnectionTable T) (slot : ℕ) (old new : SlotState A T) (turned : Option TurnEnd) → asks ≡ may_ask_at table slot
+    → IfSome turned (λ t. HasTurn answers known (record { may_ask = asks; ended = t.ended }) old new t.next) → IfSome turned (λ t. HasTurn answers known (terms_at table slot t.ended) old new t.next)
+own-terms answers known asks table slot old new turned is own =
+    subst (λ (b : Bool). IfSome turned (λ t. HasTurn answers known (record { may_ask = b; ended = t.ended }) old new t.next)) is own
+
+-- the slot that has waited longest has a turn while there is room
+pub room-invites : {T : Type 0} → RoomInvites T
+room-invites Small table room slot rest is = table.small_invited (ltb-true table.slots.owed _ room) slot rest is
+room-invites Large table room slot rest is = table.large_invited (ltb-true table.slots.owed _ room) slot rest is
 
 -- and of a slot with no connection
 pub none-by : (P : Type 0) (turned : Option TurnEnd) → IfNone turned P → IfNone (option_map (λ t. t.next) turned) P

@@ -4,8 +4,8 @@ pub mod Drain
 pub mod Owed
 pub mod Pressure
 pub mod Queue
+pub mod Room
 pub mod Runs
-pub mod Settling
 pub mod Slots
 pub mod Table
 pub mod Times

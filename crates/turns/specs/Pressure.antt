@@ -1,11 +1,14 @@
 -- Which connection is closed before its time is over (docs/WMS.md, "HTTP").
-use Rattle.std.specs.Prelude.{◌≡◌, ◌≢◌, ◌≤◌, ◌<◌, ℕ, ◌+◌, ◌-◌, ◌/◌, ◌^◌, ◌||◌, ◌&&◌, [], false, Option, None, Some, nat_lt, if◌then◌else◌}
+use Rattle.std.specs.Prelude.{◌≡◌, ◌≤◌, ◌<◌, ℕ, ◌+◌, ◌-◌, ◌/◌, ◌^◌, ◌||◌, ◌&&◌, false, true, Option, None, Some, nat_lt, if◌then◌else◌}
 use Rattle.turns.specs.Queue.{has}
+use Rattle.turns.specs.Room.{patience_for, patience_with}
 use Rattle.turns.specs.Slots.{at_slot}
-use Rattle.turns.specs.Table.{connections, ready_slots, waiting_slots, has_room, is_pending}
+use Rattle.turns.specs.Connection.{owed_by}
+use Rattle.turns.specs.Table.{connections, ready_slots, waiting_slots, is_pending, lacks_room, timeouts_of, waiting_count}
 use Rattle.turns.specs.declared.open_connection.OpenConnection.{OpenConnection}
 use Rattle.turns.specs.declared.pressure.Pressure.{Pressure}
 use Rattle.turns.specs.declared.pressure.Pressure.TheVariants.{Slot, Room}
+use Rattle.turns.specs.declared.pressure.Taken.{Taken}
 use Rattle.turns.specs.declared.pressure.TheConstants.{LONG_WAIT_MILLIS, PATIENCE_MILLIS}
 use Rattle.turns.specs.declared.table.ConnectionTable.{ConnectionTable}
 use Rattle.turns.specs.declared.times.Phase.{Phase}
@@ -20,23 +23,25 @@ idle_rank passed since = if nat_lt passed PATIENCE_MILLIS then None else (if nat
 abbrev pub head_rank : ℕ → ℕ → Option ℕ
 head_rank passed moved = if nat_lt passed PATIENCE_MILLIS then None else Some (2 ^ 64 + moved)
 
--- an answer of over a second may be broken off where no byte of it was taken for a second, or fewer than the least rate asks for: by its rate, in
--- whole bytes per millisecond
-abbrev pub answer_rank : ℕ → ℕ → ℕ → ℕ → Option ℕ
-answer_rank rate passed still sent = if nat_lt PATIENCE_MILLIS passed && (nat_lt PATIENCE_MILLIS still || nat_lt (sent / passed) rate) then Some (sent / passed) else None
+-- an answer that takes longer than the patience may be broken off where no byte of it was taken for as long, or fewer than the least rate asks for:
+-- by its rate, in whole bytes per millisecond
+abbrev pub answer_rank : ℕ → ℕ → ℕ → Taken → Option ℕ
+answer_rank rate patience passed taken =
+    if nat_lt patience passed && (nat_lt patience taken.still || nat_lt (taken.sent / passed) rate) then Some (taken.sent / passed) else None
 
--- for a slot, connections that were opened or are between requests may give way, and heads; for room, answers
-abbrev pub rank : Pressure → Phase → Option ℕ
-rank (Slot now) (Opened since) = idle_rank (now - since) since
-rank (Slot now) (Idle since) = idle_rank (now - since) since
-rank (Slot now) (Head since moved) = head_rank (now - since) moved
-rank (Room now rate) (Answer since moved sent) = answer_rank rate (now - since) (now - moved) sent
-rank pressure phase = None
+-- for a slot, connections that were opened or are between requests may give way, and heads; for room, answers, of which so many bytes are to be sent
+abbrev pub rank : Pressure → Phase → ℕ → Option ℕ
+rank (Slot now) (Opened since) owed = idle_rank (now - since) since
+rank (Slot now) (Idle since) owed = idle_rank (now - since) since
+rank (Slot now) (Head since moved) owed = head_rank (now - since) moved
+rank (Room now rate patience) (Answer since moved sent) owed =
+    answer_rank rate (patience_with patience owed) (now - since) (record { still = now - moved; sent = sent })
+rank pressure phase owed = None
 
 -- the rank of a connection, if there is one
 abbrev pub rank_of : {T : Type 0} → Pressure → Option (OpenConnection T) → Option ℕ
 rank_of pressure None = None
-rank_of pressure (Some connection) = rank pressure connection.phase
+rank_of pressure (Some connection) = rank pressure connection.phase (owed_by connection)
 
 -- the rank of the connection at a slot of a table: it has none while it has a turn or waits for room
 abbrev pub rank_at : {T : Type 0} → Pressure → ConnectionTable T → ℕ → Option ℕ
@@ -52,10 +57,14 @@ pub record IsFirst {T : Type 0} (pressure : Pressure) (table : ConnectionTable T
 abbrev pub NoneMay : {T : Type 0} → Pressure → ConnectionTable T → Type 0
 NoneMay pressure table = (slot : ℕ) → rank_at pressure table slot ≡ None
 
+-- the need for room at a moment: answers may stay less long, the more connections wait
+abbrev pub for_room : {T : Type 0} → ℕ → ConnectionTable T → Pressure
+for_room now table = Room now (timeouts_of table).rate (patience_for (waiting_count table))
+
 -- others are in need of what a connection gives up: of room only where one waits for it and there is none
 abbrev pub IsWanted : {T : Type 0} → Pressure → ConnectionTable T → Type 0
 IsWanted (Slot now) table = Unit {0}
-IsWanted (Room now rate) table = (has_room table ≡ false) × (waiting_slots table ≢ [])
+IsWanted (Room now rate patience) table = lacks_room table ≡ true
 
 -- the law of giving way: a connection that gives way has no turn, and doesn't wait for room
 abbrev pub YieldsWithoutTurn : Type 0 → Type 0

@@ -2,7 +2,7 @@
 use Rattle.std.specs.Prelude.{◌≡◌, ◌≤◌, ℕ, List, [], ◌∷◌, ◌++◌, Bool, true, false, not, ◌&&◌, ◌==◌, if◌then◌else◌, get_or, length}
 use Rattle.std.specs.List.{list_any, count_by}
 
--- the slots that have a turn, in order, of so many slots
+-- slots in order, of so many slots
 pub record Queue : Type 0 where
   pub slots : ℕ
   pub order : List ℕ
@@ -19,12 +19,6 @@ joined queue slot = if has slot queue then queue else (queue ++ slot ∷ [])
 abbrev pub joins : List ℕ → List ℕ → List ℕ
 joins queue [] = queue
 joins queue (slot ∷ slots) = joins (joined queue slot) slots
-
--- where there is room, the first that waits for it has a turn, and else nothing changes
-abbrev pub IsAdmitted : Bool → List ℕ → List ℕ → List ℕ → List ℕ → Type 0
-IsAdmitted true ready (slot ∷ waiting) later_ready later_waiting = (later_ready ≡ joined ready slot) × (later_waiting ≡ waiting)
-IsAdmitted true ready [] later_ready later_waiting = (later_ready ≡ ready) × (later_waiting ≡ [])
-IsAdmitted false ready waiting later_ready later_waiting = (later_ready ≡ ready) × (later_waiting ≡ waiting)
 
 -- each slot is in it once
 abbrev pub is_distinct : List ℕ → Bool

@@ -6,9 +6,12 @@ use Rattle.httpedge.specs.Session.{QueryOutcome, HasRespondedWith, new_session}
 use Rattle.httpedge.specs.declared.stage.Stage.TheVariants.{Ended}
 use Rattle.turns.specs.Pressure.{IsFirst, IsWanted}
 use Rattle.turns.specs.Queue.{has, joins, before}
+use Rattle.turns.specs.Room.{is_size, line_after, waits_for}
 use Rattle.turns.specs.Slots.{at_slot, slot_state, OthersStay, HasTurn}
-use Rattle.turns.specs.Table.{Goes, connections, ready_slots, waiting_slots, terms_at, is_pending, timeouts_of, KeepsWaiting}
+use Rattle.turns.specs.Table.{Goes, connections, given_at, has_room, may_ask_at, ready_slots, size_at, waiting_for, waiting_slots, terms_at, is_pending, timeouts_of, KeepsLimits}
 use Rattle.turns.specs.Times.{deadline, is_over, is_draining, is_unanswered}
+use Rattle.turns.specs.declared.answer_size.AnswerSize.{AnswerSize}
+use Rattle.turns.specs.declared.answer_size.AnswerSize.TheVariants.{Small, Large}
 use Rattle.turns.specs.declared.open_connection.OpenConnection.{OpenConnection}
 use Rattle.turns.specs.declared.pressure.Pressure.{Pressure}
 use Rattle.turns.specs.declared.outcomes.ReadOutcome.TheVariants as read
@@ -31,10 +34,11 @@ IsReason (Overdue now) table slot =
 IsReason Unanswered table slot = IfSome (at_slot (connections table) slot) (λ connection. is_unanswered connection.phase ≡ true)
 IsReason (Yields pressure) table slot = IsFirst pressure table slot × IsWanted pressure table
 
--- a turn: the slot that has it, what the connection there waits for after it, if there is one, whether a query may have been asked, and when it began
--- and ended
+-- a turn: the slot that has it, the room that it is given for an answer, if it is, what the connection there waits for after it, if there is one, whether
+-- a query may have been asked, and when it began and ended
 pub record SlotTurn : Type 0 where
   pub slot : ℕ
+  pub given : Option AnswerSize
   pub next : Option Next
   pub asked : Bool
   pub now : ℕ
@@ -64,7 +68,8 @@ pub record IsTurnOf {A T : Type 0} (answers : A → List ℕ → Said → A → 
   pub slots : List ℕ
   pub first : ready_slots old.table ≡ turn.slot ∷ rest
   pub later : ready_slots new.table ≡ joins rest slots
-  pub own : IfSome turn.next (λ next. HasTurn answers known (terms_at old.table turn.ended) (slot_state (connections old.table) turn.slot old.asks)
+  pub given : turn.given ≡ given_at old.table turn.slot
+  pub own : IfSome turn.next (λ next. HasTurn answers known (terms_at old.table turn.slot turn.ended) (slot_state (connections old.table) turn.slot old.asks)
       (slot_state (connections new.table) turn.slot new.asks) next)
   pub nobody : IfNone turn.next ((connections new.table ≡ connections old.table) × (new.asks ≡ old.asks))
   pub empty : IfNone turn.next (at_slot (connections old.table) turn.slot ≡ None)
@@ -72,8 +77,12 @@ pub record IsTurnOf {A T : Type 0} (answers : A → List ℕ → Said → A → 
   pub ends : turn.now ≤ turn.ended
   pub unasked : turn.asked ≡ false → (turn.ended ≡ turn.now) × (new.asks ≡ old.asks)
   pub turns : turn.next ≡ Some Turn → has turn.slot (ready_slots new.table) ≡ true
-  pub waits : turn.next ≡ Some Room → (has turn.slot (ready_slots new.table) ≡ true) ⊎ (has turn.slot (waiting_slots new.table) ≡ true)
-  pub keeps : KeepsWaiting old.table new.table
+  pub waits : turn.next ≡ Some Room → has turn.slot (waiting_slots new.table) ≡ true
+  pub keeps : KeepsLimits old.table new.table
+  pub small : waiting_for Small new.table ≡ line_after turn.slot (may_ask_at old.table turn.slot) (is_size Small (waits_for turn.next (size_at new.table turn.slot)))
+      (waiting_for Small old.table)
+  pub large : waiting_for Large new.table ≡ line_after turn.slot (may_ask_at old.table turn.slot) (is_size Large (waits_for turn.next (size_at new.table turn.slot)))
+      (waiting_for Large old.table)
 
 -- a worker made a step
 abbrev pub Steps : {A T : Type 0} → (A → List ℕ → Said → A → Type 0) → Transport T → WorkerState A T → Step T → WorkerState A T → Type 0
@@ -163,6 +172,28 @@ abbrev pub TurnsStay : {A T : Type 0} → (A → List ℕ → Said → A → Typ
 TurnsStay {A} {T} answers known =
     (first last : WorkerState A T) (steps : List (Step T)) → Runs answers known first steps last
     → (slot : ℕ) → has slot (ready_slots first.table) ≡ true → (has slot (turns_of steps) ≡ true) ⊎ (has slot (ready_slots last.table) ≡ true)
+
+-- the slots that were given room for an answer of a size in their turns, in order
+abbrev pub given_of : {T : Type 0} → AnswerSize → List (Step T) → List ℕ
+given_of size [] = []
+given_of size (Opens slot connection ∷ steps) = given_of size steps
+given_of size (Wakes slot ∷ steps) = given_of size steps
+given_of size (Serves turn ∷ steps) = if is_size size turn.given then turn.slot ∷ given_of size steps else given_of size steps
+given_of size (Leaves slot why ∷ steps) = given_of size steps
+
+-- the law of room: a slot that waits for room for an answer of a size is given room after those that waited before it, and no others, whatever steps
+-- are made
+abbrev pub RoomServes : {A T : Type 0} → (A → List ℕ → Said → A → Type 0) → Transport T → Type 0
+RoomServes {A} {T} answers known =
+    (size : AnswerSize) (first last : WorkerState A T) (steps : List (Step T)) → Runs answers known first steps last
+    → (slot : ℕ) → has slot (waiting_for size first.table) ≡ true → length (before slot (waiting_for size first.table)) < length (given_of size steps)
+    → (has slot (given_of Small steps) ≡ true) ⊎ (has slot (given_of Large steps) ≡ true)
+
+-- the law of those that wait longest: while there is room for an answer of a size, the slot that has waited longest for it has a turn
+abbrev pub RoomInvites : Type 0 → Type 0
+RoomInvites T =
+    (size : AnswerSize) (table : ConnectionTable T) → has_room size table ≡ true
+    → (slot : ℕ) (rest : List ℕ) → waiting_for size table ≡ slot ∷ rest → has slot (ready_slots table) ≡ true
 
 -- the law of times: a connection that leaves because its time is over has no turn, and doesn't wait for room
 abbrev pub OverdueWithoutTurn : Type 0 → Type 0

@@ -2,7 +2,7 @@
 
 ghost use Rattle.turns.specs.Pressure.{YieldsWithoutTurn};
 ghost use Rattle.turns.specs.Queue.{Fair};
-ghost use Rattle.turns.specs.Runs.{KeepsUntilServed, OverdueWithoutTurn, RunsAnswer, RunsServe, TurnsStay};
+ghost use Rattle.turns.specs.Runs.{KeepsUntilServed, OverdueWithoutTurn, RoomInvites, RoomServes, RunsAnswer, RunsServe, TurnsStay};
 
 use crate::Transport;
 use httpedge::Asks;
@@ -26,6 +26,18 @@ pub fn runs_serve<A: Asks, T: Transport>()
 /// A slot that has a turn is served, or has its turn still, whatever steps are made: no event is forgotten.
 pub fn turns_stay<A: Asks, T: Transport>()
     ensures { TurnsStay A.answers ⟦<T as Transport>⟧ }
+{}
+
+/// A slot that waits for room has it after those that waited before it for an answer of its size, and no others, whatever steps are made: of
+/// so many turns that are given room, and one more, one is its own.
+pub fn room_serves<A: Asks, T: Transport>()
+    ensures { RoomServes A.answers ⟦<T as Transport>⟧ }
+{}
+
+/// While there is room for an answer of a size, the slot that has waited longest for it has a turn: each connection that leaves and each
+/// answer that ends, and leaves room, gives it one.
+pub fn room_invites<T>()
+    ensures { RoomInvites T }
 {}
 
 /// A connection that gives way to others has no turn, and doesn't wait for room.

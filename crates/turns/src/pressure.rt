@@ -1,7 +1,9 @@
 ghost use Rattle.std.specs.Prelude.{◌≡◌};
 ghost use Rattle.turns.specs.Pressure.{answer_rank, first_of, head_rank, idle_rank, rank};
+ghost use Rattle.turns.specs.Room.{patience_with};
 
 use crate::Phase;
+use crate::answer_size::SMALL_ANSWER_BYTES;
 
 /// For how many milliseconds a connection does the same, at least, until it may give way: it was opened or is between requests, sends a
 /// head, or takes an answer.
@@ -21,14 +23,16 @@ const FIRST_SHORT_WAIT_RANK: u128 = 1 << 65;
 pub enum Pressure {
     /// A slot or a descriptor for a further connection, now.
     Slot { now: u64 },
-    /// Room for a further answer, now, where answers are to be taken at this rate, in bytes per millisecond.
-    Room { now: u64, rate: u64 },
+    /// Room for a further answer, now, where answers are to be taken at this rate, in bytes per millisecond, and may stay for so many
+    /// milliseconds that aren't.
+    Room { now: u64, rate: u64, patience: u64 },
 }
 
 impl Pressure {
-    /// The rank of a connection among those that may give way, if it is one: the lowest gives way first.
-    pub(crate) fn rank(self, phase: Phase) -> Option<u128>
-        ensures { result ≡ rank self phase }
+    /// The rank of a connection to which so many bytes are to be sent among those that may give way, if it is one: the lowest gives
+    /// way first.
+    pub(crate) fn rank(self, phase: Phase, owed: u128) -> Option<u128>
+        ensures { result ≡ rank self phase owed }
     {
         match (self, phase) {
             (Pressure::Slot { now }, Phase::Opened { since } | Phase::Idle { since }) => {
@@ -37,14 +41,39 @@ impl Pressure {
             (Pressure::Slot { now }, Phase::Head { since, moved }) => {
                 head_rank(now.saturating_sub(since), moved)
             }
-            (Pressure::Room { now, rate }, Phase::Answer { since, moved, sent }) => answer_rank(
-                rate,
-                now.saturating_sub(since),
-                now.saturating_sub(moved),
-                sent,
-            ),
+            (
+                Pressure::Room {
+                    now,
+                    rate,
+                    patience,
+                },
+                Phase::Answer { since, moved, sent },
+            ) => {
+                let still = now.saturating_sub(moved);
+                let patience = patience_with(patience, owed);
+                let taken = Taken { still, sent };
+                answer_rank(rate, patience, now.saturating_sub(since), taken)
+            }
             _ => None,
         }
+    }
+}
+
+// How long ago the last bytes of an answer were taken, and how many were in all.
+#[derive(Clone, Copy)]
+struct Taken {
+    still: u64,
+    sent: u64,
+}
+
+// For how many milliseconds an answer may stay of which so many bytes are left.
+fn patience_with(patience: u64, owed: u128) -> u64
+    ensures { result ≡ patience_with patience owed }
+{
+    if owed > u128::from(SMALL_ANSWER_BYTES) {
+        patience
+    } else {
+        PATIENCE_MILLIS
     }
 }
 
@@ -72,11 +101,12 @@ fn head_rank(passed: u64, moved: u64) -> Option<u128>
     }
 }
 
-// The rank of an answer that began so long ago, and of which so many bytes were taken, the last of them so long ago.
-fn answer_rank(rate: u64, passed: u64, still: u64, sent: u64) -> Option<u128>
-    ensures { result ≡ answer_rank rate passed still sent }
+// The rank of an answer that began so long ago, and of which this was taken.
+fn answer_rank(rate: u64, patience: u64, passed: u64, taken: Taken) -> Option<u128>
+    ensures { result ≡ answer_rank rate patience passed taken }
 {
-    if passed > PATIENCE_MILLIS && (still > PATIENCE_MILLIS || sent / passed < rate) {
+    let Taken { still, sent } = taken;
+    if passed > patience && (still > patience || sent / passed < rate) {
         Some(u128::from(sent / passed))
     } else {
         None

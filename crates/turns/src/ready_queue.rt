@@ -1,11 +1,12 @@
-ghost use Rattle.std.specs.Prelude.{◌≡◌, ◌≤◌, ◌<◌, ◌∷◌, ◌++◌, [], ◌==◌, length, false, IfOk, IfSome, MatchOption, true, ℕ};
+ghost use Rattle.std.specs.Prelude.{◌≡◌, ◌≤◌, ◌<◌, ◌∷◌, ◌++◌, [], ◌==◌, length, false, IfOk, IfSome, MatchOption, true, ℕ, List};
 ghost use Rattle.turns.specs.Queue.{has, joined};
+ghost use Rattle.turns.specs.Room.{is_next, without};
 
 use std::alloc::{AllocError, Global};
 use std::collections::VecDeque;
 use std::marker::Model;
 
-/// The slots that have a turn next, in order: each is in it once, after those that came before.
+/// Slots that have a turn next, or that wait for room, in order: each is in it once, after those that came before.
 #[derive(Drop)]
 pub struct ReadyQueue {
     order: VecDeque<usize>,
@@ -68,6 +69,47 @@ impl ReadyQueue {
         ensures { result ≡ (length self.now.order == 0) }
     {
         self.order.is_empty()
+    }
+
+    /// How many slots have a turn.
+    pub fn len(&self) -> usize
+        ensures { result ≡ length self.now.order }
+    {
+        self.order.len()
+    }
+
+    /// The slot that has waited longest.
+    pub fn first(&self) -> Option<usize>
+        ensures first { MatchOption result (self.now.order ≡ [])
+            (λ slot. (rest : List ℕ) × (self.now.order ≡ slot ∷ rest)) }
+        ensures below { IfSome result (λ slot. slot < self.now.slots) }
+    {
+        let slot = *self.order.front()?;
+        if slot < self.is_in.len() {
+            Some(slot)
+        } else {
+            None
+        }
+    }
+
+    /// Whether no slot has waited longer than this one.
+    pub fn is_next(&self, slot: usize) -> bool
+        ensures { result ≡ is_next slot self.now.order }
+    {
+        match self.first() {
+            Some(first) => first == slot,
+            None => true,
+        }
+    }
+
+    /// A slot leaves the queue, if it has waited longest.
+    pub fn leave(&mut self, slot: usize)
+        ensures order { self.new.order ≡ without slot self.old.order }
+        ensures slots { self.new.slots ≡ self.old.slots }
+    {
+        if self.first() == Some(slot) {
+            let _ = self.next();
+        }
     }
 
     /// The slot that has waited longest, which leaves the queue.

@@ -2,9 +2,12 @@ ghost use Rattle.std.specs.Prelude.{◌≡◌, ◌⊎◌, ◌≤◌, ◌<◌, �
 ghost use Rattle.std.specs.List.{list_all};
 ghost use Rattle.turns.specs.Connection.{IsTurn, connection_state, ended_at, owed_by};
 ghost use Rattle.turns.specs.Owed.{owed_at, owed_in_all};
+ghost use Rattle.turns.specs.Room.{size_of, waits_for};
 ghost use Rattle.turns.specs.Slots.{at_slot, slot_state, OthersStay, HasTurn};
 
-use crate::{OpenConnection, Phase, Transport, TurnClock, TurnConditions, TurnEnd};
+use crate::{
+    AnswerSize, Next, OpenConnection, Phase, Transport, TurnClock, TurnConditions, TurnEnd,
+};
 use httpedge::Asks;
 use std::alloc::{AllocError, Global};
 
@@ -124,6 +127,39 @@ impl<T: Transport + Drop> Slots<T> {
         ensures here { at_slot self.new.items.items slot ≡ Some connection }
     {
         self.items[slot] = Some(connection);
+    }
+
+    /// What the next answer of the connection at a slot is reckoned as.
+    #[tactic(auto, unfolding(crate::specs::Room::size_of))]
+    pub fn next_size(&self, slot: usize) -> AnswerSize
+        ensures { result ≡ size_of (at_slot self.now.items.items slot) }
+    {
+        match self.items.get(slot) {
+            Some(Some(connection)) => connection.exchange.next_size(),
+            _ => AnswerSize::Large,
+        }
+    }
+
+    /// For which room the connection at a slot waits, that waits for this after its turn.
+    pub fn waits_for(&self, slot: usize, next: Option<Next>) -> Option<AnswerSize>
+        ensures { result ≡ waits_for next (size_of (at_slot self.now.items.items slot)) }
+    {
+        match next {
+            Some(Next::Room) => Some(self.next_size(slot)),
+            _ => None,
+        }
+    }
+
+    /// The phase of the connection at a slot, and how many bytes are to be sent to it, if there is one.
+    pub fn state(&self, slot: usize) -> Option<(Phase, u128)>
+        ensures { MatchOption result (at_slot self.now.items.items slot ≡ None)
+            (λ state. IsSomeAnd (at_slot self.now.items.items slot)
+            (λ connection. (connection.phase ≡ state.0) × (owed_by connection ≡ state.1))) }
+    {
+        match self.items.get(slot) {
+            Some(Some(connection)) => Some((connection.phase, connection.owed())),
+            _ => None,
+        }
     }
 
     /// The phase of the connection at a slot, if there is one.

@@ -1,13 +1,17 @@
 ghost use Rattle.std.specs.Prelude.{◌≡◌, ◌≤◌, ◌<◌, ◌+◌, ◌^◌, [], ◌∷◌, length, max, true, false};
 ghost use Rattle.turns.specs.Owed.{owed_at, owed_in_all};
+ghost use Rattle.turns.specs.Room.{IsInvited, share_of};
 ghost use Rattle.turns.specs.Slots.{at_slot};
+ghost use Rattle.turns.specs.declared.answer_size.AnswerSize.TheVariants.{Small, Large};
 
+use crate::answer_size::{patience_for, share_of};
 use crate::pressure::first_of;
 use crate::queues::{admit, settle};
+use crate::room::may_be_asked;
 use crate::slots::Slots;
 use crate::{
-    Closed, OpenConnection, Pressure, ReadyQueue, Served, Timeouts, Transport, TurnClock,
-    TurnConditions,
+    AnswerSize, Closed, OpenConnection, Pressure, ReadyQueue, Served, Timeouts, Transport,
+    TurnClock, TurnConditions, WaitingQueues,
 };
 use httpedge::Asks;
 use std::alloc::{AllocError, Global};
@@ -15,8 +19,9 @@ use std::alloc::{AllocError, Global};
 /// The connections of a worker, each at a slot, and which of them has the next turn.
 ///
 /// The responses that are to be sent to them have at most `room` bytes and one response more (`bounded`). A query is
-/// answered only while they have less than `room` bytes. Where there is room and a connection waits for it, some connection
-/// has a turn (`admitted`). No call but `close_overdue`, `close_unanswered`, `close_for_slot`, `close_for_descriptor` and
+/// answered only while they have less than `room` bytes, and one whose answer isn't reckoned as small only while they have less
+/// than three quarters of it. Where there is room and connections wait for it, the one that has waited longest has a turn
+/// (`small_invited`, `large_invited`), and none that came later is answered before it (`line`). No call but `close_overdue`, `close_unanswered`, `close_for_slot`, `close_for_descriptor` and
 /// `close_for_room` removes a connection from its slot.
 #[derive(Drop)]
 pub struct ConnectionTable<T: Drop> {
@@ -24,7 +29,7 @@ pub struct ConnectionTable<T: Drop> {
     // Those that have a turn.
     ready: ReadyQueue,
     // Those that wait for room.
-    waiting: ReadyQueue,
+    waiting: WaitingQueues,
     timeouts: Timeouts,
     // A query is answered only while fewer bytes are to be sent.
     room: usize,
@@ -34,8 +39,10 @@ pub struct ConnectionTable<T: Drop> {
     ghost bounded: { slots.owed ≤ room + owed_at (at_slot slots.items.items last_asked) },
     ghost small: { slots.owed < 2 ^ 67 },
     ghost ready_slots: { ready.slots ≡ length slots.items.items },
-    ghost waiting_slots: { waiting.slots ≡ length slots.items.items },
-    ghost admitted: { slots.owed < room → ready.order ≡ [] → waiting.order ≡ [] },
+    ghost small_slots: { waiting.small.slots ≡ length slots.items.items },
+    ghost large_slots: { waiting.large.slots ≡ length slots.items.items },
+    ghost small_invited: { slots.owed < share_of Small room → IsInvited waiting.small.order ready.order },
+    ghost large_invited: { slots.owed < share_of Large room → IsInvited waiting.large.order ready.order },
 }
 
 impl<T: Transport + Drop> ConnectionTable<T> {
@@ -43,13 +50,13 @@ impl<T: Transport + Drop> ConnectionTable<T> {
     ghost use Rattle.std.specs.List.{list_all};
     ghost use Rattle.httpedge.specs.Session.{HasAsked, QueryOutcome};
     ghost use Rattle.turns.specs.Connection.{owed_by};
-    ghost use Rattle.turns.specs.Pressure.{IsFirst, NoneMay, rank_at};
+    ghost use Rattle.turns.specs.Pressure.{IsFirst, NoneMay, for_room, rank_at};
     ghost use Rattle.turns.specs.declared.pressure.Pressure.TheVariants as pressure;
-    ghost use Rattle.turns.specs.Queue.{has, joins, IsAdmitted};
+    ghost use Rattle.turns.specs.Queue.{has, joins};
+    ghost use Rattle.turns.specs.Room.{is_size, line_after, waits_for};
     ghost use Rattle.turns.specs.Runs.{HasRun, IsTurnOf};
-    ghost use Rattle.turns.specs.Settling.{IsSettled};
     ghost use Rattle.turns.specs.Slots.{slot_state, OthersStay, HasTurn};
-    ghost use Rattle.turns.specs.Table.{connections, ready_slots, waiting_slots, timeouts_of, room_of, has_room, is_pending, terms_at, ClosedOrStayed, Goes, IsFull, KeepsWaiting, LeftOrStayed};
+    ghost use Rattle.turns.specs.Table.{connections, given_at, lacks_room, may_ask_at, ready_slots, size_at, waiting_for, waiting_slots, timeouts_of, room_of, is_pending, terms_at, ClosedOrStayed, Goes, IsFull, KeepsLimits, LeftOrStayed};
     ghost use Rattle.turns.specs.Times.{deadline, is_unanswered};
     ghost use Rattle.turns.specs.declared.turn.Next.TheVariants.{Turn, Room};
 
@@ -69,7 +76,7 @@ impl<T: Transport + Drop> ConnectionTable<T> {
         Ok(ConnectionTable {
             slots: Slots::new(alloc, slots)?,
             ready: ReadyQueue::new(alloc, slots)?,
-            waiting: ReadyQueue::new(alloc, slots)?,
+            waiting: WaitingQueues::new(alloc, slots)?,
             timeouts,
             room,
             last_asked: 0,
@@ -146,7 +153,7 @@ impl<T: Transport + Drop> ConnectionTable<T> {
         ensures empty { IfSome result (λ served. IfNone served.next (at_slot (connections self.old) served.slot ≡ None)) }
         ensures own { IfSome result
             (λ served. IfSome served.next
-            (λ next. HasTurn A.answers ⟦<T as Transport>⟧ (terms_at self.old served.ended)
+            (λ next. HasTurn A.answers ⟦<T as Transport>⟧ (terms_at self.old served.slot served.ended)
             (slot_state (connections self.old) served.slot asks.old)
             (slot_state (connections self.new) served.slot asks.new) next)) }
         ensures others { IfSome result (λ served. OthersStay served.slot (connections self.old) (connections self.new)) }
@@ -154,7 +161,14 @@ impl<T: Transport + Drop> ConnectionTable<T> {
             (record { table = self.new; asks = asks.new }) }
         ensures step { IfSome result
             (λ served. IsTurnOf A.answers ⟦<T as Transport>⟧ (record { table = self.old; asks = asks.old })
-            (record { slot = served.slot; next = served.next; asked = served.asked; now = now; ended = served.ended })
+            (record {
+              slot = served.slot;
+              given = given_at self.old served.slot;
+              next = served.next;
+              asked = served.asked;
+              now = now;
+              ended = served.ended;
+            })
             (record { table = self.new; asks = asks.new })) }
         ensures once { IfSome result (λ _. (queries : List QueryOutcome) × HasAsked A.answers asks.old queries asks.new) }
         ensures unasked { IfSome result (λ served. served.asked ≡ false → (served.ended ≡ now) × (asks.new ≡ asks.old)) }
@@ -163,24 +177,29 @@ impl<T: Transport + Drop> ConnectionTable<T> {
             → (moment : ℕ) × C.shows clock.now moment × (served.ended ≡ max now moment)) }
         ensures turns { IfSome result (λ served. served.next ≡ Some Turn → has served.slot (ready_slots self.new) ≡ true) }
         ensures waits { IfSome result
-            (λ served. served.next ≡ Some Room
-            → (has served.slot (ready_slots self.new) ≡ true) ⊎ (has served.slot (waiting_slots self.new) ≡ true)) }
-        ensures keeps { KeepsWaiting self.old self.new }
-        ensures line { IfSome result
-            (λ served. (settled : List ℕ) × (rest : List ℕ) × IsSettled served.slot served.next (waiting_slots self.old) settled
-            × IsAdmitted (has_room self.new) rest settled (ready_slots self.new) (waiting_slots self.new)) }
+            (λ served. served.next ≡ Some Room → has served.slot (waiting_slots self.new) ≡ true) }
+        ensures keeps { KeepsLimits self.old self.new }
+        ensures small { IfSome result
+            (λ served. waiting_for Small self.new ≡ line_after served.slot (may_ask_at self.old served.slot)
+            (is_size Small (waits_for served.next (size_at self.new served.slot))) (waiting_for Small self.old)) }
+        ensures large { IfSome result
+            (λ served. waiting_for Large self.new ≡ line_after served.slot (may_ask_at self.old served.slot)
+            (is_size Large (waits_for served.next (size_at self.new served.slot))) (waiting_for Large self.old)) }
+        ensures unchanged { IfNone result
+            ((waiting_for Small self.new ≡ waiting_for Small self.old) × (waiting_for Large self.new ≡ waiting_for Large self.old)) }
     {
         let slot = self.ready.next()?;
-        let may_ask = self.slots.owed < self.room as u128;
+        let may_ask = may_be_asked(&self.slots, &self.waiting, self.room, slot);
         let conditions = TurnConditions { may_ask, now };
         let turned = self.slots.turn(slot, asks, conditions, clock);
         let served = Served::of(slot, turned, now);
         if may_ask && served.next.is_some() {
             self.last_asked = slot;
         }
-        let has_room = self.slots.owed < self.room as u128;
-        settle(&mut self.ready, &mut self.waiting, slot, served.next);
-        admit(&mut self.ready, &mut self.waiting, has_room);
+        let waits = self.slots.waits_for(slot, served.next);
+        settle(&mut self.ready, slot, served.next);
+        self.waiting.settle(slot, may_ask, waits);
+        admit(&mut self.ready, &self.waiting, self.slots.owed, self.room);
         Some(served)
     }
 
@@ -199,8 +218,7 @@ impl<T: Transport + Drop> ConnectionTable<T> {
         ensures goes { Goes self.old self.new }
     {
         let connection = self.slots.take(slot);
-        let has_room = self.slots.owed < self.room as u128;
-        admit(&mut self.ready, &mut self.waiting, has_room);
+        admit(&mut self.ready, &self.waiting, self.slots.owed, self.room);
         connection
     }
 
@@ -244,8 +262,8 @@ impl<T: Transport + Drop> ConnectionTable<T> {
         if self.is_pending(slot) {
             return None;
         }
-        match self.slots.phase(slot) {
-            Some(phase) => pressure.rank(phase),
+        match self.slots.state(slot) {
+            Some((phase, owed)) => pressure.rank(phase, owed),
             None => None,
         }
     }
@@ -305,22 +323,41 @@ impl<T: Transport + Drop> ConnectionTable<T> {
         self.give_way(Pressure::Slot { now })
     }
 
-    /// Where a connection waits for room, of those without a turn whose answers have been going for over a second the slowest one
-    /// leaves that took no byte for a second, or fewer than the least rate asks for, if there is one.
+    // Whether a connection waits for room in vain.
+    fn lacks_room(&self) -> bool
+        ensures { result ≡ lacks_room self.now }
+    {
+        let owed = self.slots.owed;
+        let has_small = owed < share_of(AnswerSize::Small, self.room) as u128;
+        let has_large = owed < share_of(AnswerSize::Large, self.room) as u128;
+        !self.waiting.small.is_empty() && !has_small || !self.waiting.large.is_empty() && !has_large
+    }
+
+    // The need for room now: answers may stay less long, the more connections wait.
+    fn for_room(&self, now: u64) -> Pressure
+        ensures { result ≡ for_room now self.now }
+    {
+        Pressure::Room {
+            now,
+            rate: self.timeouts.rate,
+            patience: patience_for(self.waiting.count()),
+        }
+    }
+
+    /// Where a connection waits for room in vain, of those without a turn the slowest one leaves whose answer has been going for over a
+    /// second and that took no byte for a second, or fewer than the least rate asks for, if there is one. The more wait, the less than
+    /// a second counts, unless what is left of its answer is small.
     pub fn close_for_room(&mut self, now: u64) -> Option<Closed<T>>
-        ensures no_room { IfSome result (λ _. has_room self.old ≡ false) }
-        ensures wanted { IfSome result (λ _. waiting_slots self.old ≡ [] → ⊥) }
-        ensures none { IfNone result
-            ((waiting_slots self.old ≡ [])
-            ⊎ ((has_room self.old ≡ true) ⊎ NoneMay (pressure.Room now (timeouts_of self.old).rate) self.old)) }
-        ensures first { IfSome result (λ closed. IsFirst (pressure.Room now (timeouts_of self.old).rate) self.old closed.slot) }
+        ensures wanted { IfSome result (λ _. lacks_room self.old ≡ true) }
+        ensures none { IfNone result ((lacks_room self.old ≡ false) ⊎ NoneMay (for_room now self.old) self.old) }
+        ensures first { IfSome result (λ closed. IsFirst (for_room now self.old) self.old closed.slot) }
         ensures left { ClosedOrStayed result self.old self.new }
         ensures goes { Goes self.old self.new }
     {
-        if self.waiting.is_empty() || self.slots.owed < self.room as u128 {
+        if !self.lacks_room() {
             return None;
         }
-        let rate = self.timeouts.rate;
-        self.give_way(Pressure::Room { now, rate })
+        let pressure = self.for_room(now);
+        self.give_way(pressure)
     }
 }

@@ -1,5 +1,6 @@
-use Rattle.turns.proofs.Order.{add-joins}
+use Rattle.turns.proofs.Order.{joins-then}
 use Rattle.turns.proofs.queues.admit.Goals as goal
 
-pub returns-in-Some-clause-joins : goal.returns-in-Some-clause-joins
-returns-in-Some-clause-joins c = add-joins c.args.ready.now c.add.new.self c.in-Some.slot c.add.ensures.joins c.add.ensures.none
+pub returns-clause-joins : goal.returns-clause-joins
+returns-clause-joins c =
+    joins-then c.args.ready.now.order c.invite.new.ready.order c.invite-2.new.ready.order c.invite.ensures.joins c.invite-2.ensures.joins

@@ -1,6 +1,7 @@
-use Rattle.std.proofs.Common.{rules}
+use Rattle.std.proofs.Common.{refl, rules}
+use Rattle.turns.proofs.Lines.{room-waits}
 use Rattle.turns.proofs.Order.{served-joins, joins-then}
-use Rattle.turns.proofs.Runs.{ends-later, none-by, own-by, run-step, turned-asks, unasked-by}
+use Rattle.turns.proofs.Runs.{ends-later, none-by, own-by, own-terms, run-step, turned-asks, unasked-by}
 use Rattle.turns.specs.Runs.{Serves}
 use Rattle.turns.specs.Table.{terms_at}
 use Rattle.turns.proofs.table.ConnectionTable.serve_next.Goals as goal
@@ -9,6 +10,11 @@ pub returns-clause-first : goal.returns-clause-first
 returns-clause-first g c =
     rw c.of-served.ensures.slot (served-joins c.args.self.now.ready.order c.next.new.self.order c.admit.new.ready.order c.in_ok-slot.slot c.in_ok-slot.ensures.first
     (joins-then c.next.new.self.order c.settle.new.ready.order c.admit.new.ready.order c.settle.ensures.joins c.admit.ensures.joins))
+
+pub returns-clause-waits : goal.returns-clause-waits
+returns-clause-waits g c = λ next.
+    rw c.of-served.ensures.slot (room-waits c.of-served.result.next _ c.waits_for-waits.result c.in_ok-slot.slot c.may_be_asked-may_ask.result c.args.self.now.waiting.small.order c.args.self.now.waiting.large.order _ _
+    c.waits_for-waits.ensures c.settle-2.ensures.small c.settle-2.ensures.large next)
 
 pub returns-clause-step : goal.returns-clause-step
 returns-clause-step g c =
@@ -21,15 +27,19 @@ returns-clause-step g c =
       slots = slots;
       first = first;
       later = later;
-      own = rw (slot, served.next, served.ended) (own-by g.A.Asks.answers g.T.Transport (λ ended. terms_at c.args.self.now ended) c.args.now _ _ turned.result turned.ensures.own);
+      given = refl;
+      own = rw (slot, served.next, served.ended) (own-by g.A.Asks.answers g.T.Transport (λ ended. terms_at c.args.self.now c.in_ok-slot.slot ended) c.args.now _ _ turned.result
+          (own-terms g.A.Asks.answers g.T.Transport _ c.args.self.now c.in_ok-slot.slot _ _ turned.result c.may_be_asked-may_ask.ensures.value turned.ensures.own));
       nobody = rw served.next (none-by _ turned.result turned.ensures.nobody);
       empty = rw (slot, served.next) (none-by _ turned.result turned.ensures.empty);
       others = rw slot turned.ensures.others;
       ends = rw served.ended (ends-later c.args.now turned.result turned.ensures.later);
       unasked = rw (served.asked, served.ended) (unasked-by c.args.now _ turned.result turned.ensures.unasked (search rules));
       turns = rw slot (search rules);
-      waits = rw slot (search rules);
+      waits = returns-clause-waits g c;
       keeps = search rules;
+      small = rw slot (search rules);
+      large = rw slot (search rules);
     }
 
 pub returns-clause-once : goal.returns-clause-once
