@@ -2,8 +2,9 @@
 """Tries what `--journal` makes of paths: that nothing is written over, what is refused, and by which line. Usage: journal_paths.py PROGRAM
 
 Each row starts the program in a folder of its own. After it the folder must have the files that it had, each with its bytes, and the
-journal where one is expected. Rows of rights start it as nobody where the script runs as root, and a row of a full disk needs a
-file system that can be mounted: where it can't, the row is skipped by name. It ends with 1 where a row came out otherwise.
+journal where one is expected. Rows of rights start it as nobody where the script runs as root, and rows of full disks and of files
+that are mounted by themselves need that this is allowed; rows of calls that report another result than theirs need cc. Where
+that isn't there, the row is skipped by name. It ends with 1 where a row came out otherwise.
 """
 import fcntl
 import os
@@ -27,9 +28,39 @@ HEADER = b"KESMOCH JOURNAL 1\n"
 EMPTY = len(HEADER) + 32
 NOBODY = 65534
 TIMES = 40
+# The names of a new file beside a journal.
+NAMES = 1_000
 DESCRIPTORS = 48
 # Bytes of a journal with a few batches.
 SMALL = 300
+# Bytes of a batch: with the fourth a journal has more than a million.
+BIG = 300_000
+DUE = 4
+# A library that is loaded before the C library. The new file gets the journal's path; then the rename itself, or the sync of the folder
+# behind it, is reported as failed.
+SHIM = r"""
+#define _GNU_SOURCE
+#include <errno.h>
+#include <stdlib.h>
+#include <string.h>
+#include <sys/stat.h>
+#include <sys/syscall.h>
+#include <unistd.h>
+static int has_renamed;
+static int is_failing(const char *call) { const char *named = getenv("FAILING"); return named && strcmp(named, call) == 0; }
+int rename(const char *old, const char *new) {
+    if (syscall(SYS_rename, old, new) != 0) return -1;
+    has_renamed = 1;
+    if (!is_failing("rename")) return 0;
+    errno = EIO;
+    return -1;
+}
+int fsync(int file) {
+    struct stat found;
+    if (has_renamed && is_failing("fsync") && fstat(file, &found) == 0 && S_ISDIR(found.st_mode)) { errno = EIO; return -1; }
+    return syscall(SYS_fsync, file);
+}
+"""
 
 
 class Wrong(Exception):
@@ -48,8 +79,8 @@ def words(program, journal, *options):
 class Server:
     """A server that listens."""
 
-    def __init__(self, program, folder, journal="journal", bounded=None, options=()):
-        self.process = subprocess.Popen(words(program, journal, *options), cwd=folder, stdout=subprocess.PIPE, stderr=subprocess.PIPE, preexec_fn=bounded)
+    def __init__(self, program, folder, journal="journal", options=(), **started):
+        self.process = subprocess.Popen(words(program, journal, *options), cwd=folder, stdout=subprocess.PIPE, stderr=subprocess.PIPE, **started)
         ports = ports_of(self.process.stdout.readline())
         if ports is None:
             raise Wrong(f"no server: {self.process.stderr.read()}")
@@ -62,11 +93,19 @@ class Server:
         self.process.kill()
         self.process.communicate()
 
-    def submit(self):
+    def answer(self, batch):
         from administration import Administrator
 
         with Administrator(("127.0.0.1", self.administration)) as administrator:
-            return administrator.batch(b"OFF a\n").word
+            return administrator.batch(batch)
+
+    def submit(self):
+        return self.answer(b"OFF a\n").word
+
+    def warnings(self):
+        """Ends it, and gives the lines on its journal."""
+        self.process.terminate()
+        return [line for line in self.ended()[1].splitlines() if line.startswith("warning journal")]
 
     def ended(self):
         errors = self.process.communicate(timeout=30)[1]
@@ -77,6 +116,20 @@ def refused(program, folder, message, journal="journal", user=None):
     """That no server starts with a journal, and says why."""
     done = subprocess.run(words(program, journal), cwd=folder, capture_output=True, timeout=30, user=user)
     expect("how it ended", (done.returncode, done.stderr.decode()), (3, f"fault journal {journal}: {message}\n"))
+
+
+def as_nobody(program, folder):
+    """A user who isn't root, and the program where that one may start it."""
+    if os.geteuid() != 0:
+        return program, None
+    shutil.copy(program, folder / "program")
+    return "./program", NOBODY
+
+
+def big(number):
+    """A batch of 300 KB that undoes the ones before it."""
+    rows = b"x,y,n\n1,1,%s\n" % (b"%d" % (number % 10) * BIG)
+    return b"CLEAR a\nAPPEND %d a\n%s" % (len(rows), rows)
 
 
 def files_of(folder):
@@ -138,12 +191,7 @@ def folders_are_refused(program, folder):
 def rights_are_said(program, folder):
     (folder / "journal").write_bytes(b"")
     (folder / "journal").chmod(0o400)
-    user = None
-    if os.geteuid() == 0:
-        user = NOBODY
-        copied = folder / "program"
-        shutil.copy(program, copied)
-        program = "./program"
+    program, user = as_nobody(program, folder)
     refused(program, folder, "the program may not read and write it", user=user)
     (folder / "shut").mkdir(0o555)
     refused(program, folder, "the program may not read and write it", journal="shut/journal", user=user)
@@ -170,7 +218,7 @@ def removed_journals_fail(program, folder):
         expect("the first answer", server.submit(), "PUBLISHED")
         (folder / "journal").unlink()
         expect("the answer", server.submit(), "FAILED")
-        expect("how it ended", server.ended(), (3, "fault journal journal: it can't be read or written\n"))
+        expect("how it ended", server.ended(), (3, "fault journal journal: it was removed or replaced\n"))
 
 
 def replaced_journals_fail(program, folder):
@@ -179,7 +227,7 @@ def replaced_journals_fail(program, folder):
         shutil.copy(folder / "journal", folder / "other")
         os.rename(folder / "other", folder / "journal")
         expect("the answer", server.submit(), "FAILED")
-        expect("how it ended", server.ended(), (3, "fault journal journal: it can't be read or written\n"))
+        expect("how it ended", server.ended(), (3, "fault journal journal: it was removed or replaced\n"))
 
 
 def make_a_folder(path):
@@ -214,7 +262,7 @@ def what_took_the_path_of_a_journal_fails(program, folder):
             path.unlink()
             take(path)
             expect(f"the answer after {take.__name__}", server.submit(), "FAILED")
-            expect("how it ended", server.ended(), (3, "fault journal journal: it can't be read or written\n"))
+            expect("how it ended", server.ended(), (3, "fault journal journal: it was removed or replaced\n"))
         os.rmdir(path) if path.is_dir() else path.unlink()
 
 
@@ -244,6 +292,133 @@ def one_server_has_a_journal(program, folder):
     expect("the files", sorted(files_of(folder)), ["journal", "map.map"])
 
 
+def uncompacted(cause):
+    return f"warning journal journal: it isn't compacted: {cause}"
+
+
+def are_kept_by_three_servers(program, folder, cause, user=None):
+    """That batches are published by one server after the other, each of which may not compact the journal that is due, and says so once."""
+    sequence = 0
+    for _ in range(3):
+        with Server(program, folder, options=("--checkpoint", "1", "--explain"), user=user) as server:
+            for _ in range(DUE + 2):
+                sequence += 1
+                expect("the answer", str(server.answer(big(sequence))), f"PUBLISHED {sequence}")
+            expect("what is said", server.warnings(), [uncompacted(cause)])
+    expect("whether it has all batches", (folder / "journal").stat().st_size > sequence * BIG, True)
+    expect("the new files", [path.name for path in folder.glob("journal.new*")], [])
+
+
+def a_mounted_journal_is_served_on(program, folder):
+    with Server(program, folder):
+        pass
+    (folder / "journal").rename(folder / "mounted")
+    (folder / "journal").write_bytes(b"")
+    if subprocess.run(["mount", "--bind", folder / "mounted", folder / "journal"], capture_output=True).returncode != 0:
+        return "no file can be mounted"
+    try:
+        are_kept_by_three_servers(program, folder, "it is mounted by itself")
+    finally:
+        subprocess.run(["umount", folder / "journal"], check=True)
+    return None
+
+
+def the_journal_of_another_user_in_a_sticky_folder_is_served_on(program, folder):
+    program, user = as_nobody(program, folder)
+    if user is None:
+        return "it doesn't run as root"
+    with Server(program, folder):
+        pass
+    (folder / "journal").chmod(0o666)
+    folder.chmod(0o1777)
+    are_kept_by_three_servers(program, folder, "the program may not make or rename files in its folder", user)
+    return None
+
+
+def make_a_link(folder):
+    (folder / "journal").rename(folder / "elsewhere")
+    (folder / "journal").symlink_to("elsewhere")
+
+
+def take_every_name(folder):
+    for number in range(1, NAMES + 1):
+        (folder / f"journal.new-{number}").write_bytes(b"")
+
+
+def shut_the_folder(folder):
+    (folder / "journal").chmod(0o666)
+    folder.chmod(0o555)
+
+
+def journals_that_are_not_compacted_are_said(program, folder):
+    program, user = as_nobody(program, folder)
+    causes = [(make_a_link, "its path is a symbolic link"), (take_every_name, "each name of a new file is taken, up to .new-1000")]
+    if user is not None:
+        causes.append((shut_the_folder, "the program may not make or rename files in its folder"))
+    folder.chmod(0o777)
+    for change, cause in causes:
+        for options, times in (((), 0), (("--log",), 2), (("--explain",), 2)):
+            with Server(program, folder, user=user):
+                pass
+            change(folder)
+            with Server(program, folder, options=("--checkpoint", "1", *options), user=user) as server:
+                for number in range(1, 2 * DUE + 2):
+                    expect("the answer", str(server.answer(big(number))), f"PUBLISHED {number}")
+                expect(f"what is said with {options}", server.warnings(), [uncompacted(cause)] * times)
+            folder.chmod(0o777)
+            for path in folder.glob("journal*"):
+                path.unlink()
+            (folder / "elsewhere").unlink(missing_ok=True)
+    return None
+
+
+def a_rename_that_may_be_done_fails_a_batch(program, folder):
+    (folder / "shim.c").write_text(SHIM, encoding="utf-8")
+    if shutil.which("cc") is None:
+        return "no cc"
+    subprocess.run(["cc", "-shared", "-fPIC", "-o", folder / "shim.so", folder / "shim.c"], check=True)
+    for call in ("rename", "fsync"):
+        env = {"LD_PRELOAD": str(folder / "shim.so"), "FAILING": call}
+        with Server(program, folder, options=("--checkpoint", "1"), env=env) as server:
+            for number in range(1, DUE):
+                expect("the answer", str(server.answer(big(number))), f"PUBLISHED {number}")
+            expect(f"the answer after a {call} that failed", str(server.answer(big(DUE))), "FAILED")
+            expect("how it ended", server.ended(), (3, "fault journal journal: it can't be read or written\n"))
+        with Server(program, folder) as server:
+            expect("the next answer", str(server.answer(b"OFF a\n")), f"PUBLISHED {DUE + 1}")
+        (folder / "journal").unlink()
+    return None
+
+
+def a_start_compacts_a_journal_that_is_due(program, folder):
+    with Server(program, folder) as server:
+        for number in range(1, DUE + 1):
+            expect("the answer", str(server.answer(big(number))), f"PUBLISHED {number}")
+    with Server(program, folder, options=("--checkpoint", "1")) as server:
+        expect("whether one batch is left of it", BIG < (folder / "journal").stat().st_size < 2 * BIG, True)
+        expect("the answer", str(server.answer(b"OFF a\n")), f"PUBLISHED {DUE + 1}")
+
+
+def a_start_makes_room_on_a_full_disk(program, folder):
+    disk = folder / "disk"
+    disk.mkdir()
+    if subprocess.run(["mount", "-t", "tmpfs", "-o", f"size={DUE * BIG + BIG // 2}", "none", disk], capture_output=True).returncode != 0:
+        return "no file system can be mounted"
+    try:
+        full = (3, "fault journal disk/journal: its disk is full\n")
+        with Server(program, folder, "disk/journal") as server:
+            for number in range(1, DUE + 1):
+                expect("the answer", str(server.answer(big(number))), f"PUBLISHED {number}")
+            expect("the answer to CLEAR", str(server.answer(b"CLEAR a\n")), f"PUBLISHED {DUE + 1}")
+            expect("the answer on a full disk", server.answer(big(0)).word, "FAILED")
+            expect("how it ended", server.ended(), full)
+        with Server(program, folder, "disk/journal", options=("--checkpoint", "1")) as server:
+            expect("the next answer", str(server.answer(big(0))), f"PUBLISHED {DUE + 2}")
+    finally:
+        subprocess.run(["umount", disk], check=True)
+    return None
+
+
 def torn_records_are_said(program, folder):
     with Server(program, folder) as server:
         expect("the answer", server.submit(), "PUBLISHED")
@@ -268,7 +443,7 @@ def small_files():
 
 
 def a_limit_of_file_size_fails_a_batch(program, folder):
-    with Server(program, folder, bounded=small_files) as server:
+    with Server(program, folder, preexec_fn=small_files) as server:
         answers = [server.submit()]
         while answers[-1] == "PUBLISHED" and len(answers) < SMALL:
             answers.append(server.submit())
@@ -280,7 +455,7 @@ def a_limit_of_file_size_fails_a_batch(program, folder):
 
 
 def batches_are_kept_where_clients_take_every_descriptor(program, folder):
-    with Server(program, folder, bounded=few_descriptors) as server:
+    with Server(program, folder, preexec_fn=few_descriptors) as server:
         held = [socket.create_connection(("127.0.0.1", server.clients)) for _ in range(2 * DESCRIPTORS)]
         for connection in held:
             connection.sendall(b"GET ")
@@ -307,6 +482,12 @@ ROWS = [
     what_took_the_path_of_a_journal_fails,
     a_second_server_at_the_path_ends_the_first,
     one_server_has_a_journal,
+    a_mounted_journal_is_served_on,
+    the_journal_of_another_user_in_a_sticky_folder_is_served_on,
+    journals_that_are_not_compacted_are_said,
+    a_rename_that_may_be_done_fails_a_batch,
+    a_start_compacts_a_journal_that_is_due,
+    a_start_makes_room_on_a_full_disk,
     torn_records_are_said,
     a_limit_of_file_size_fails_a_batch,
     batches_are_kept_where_clients_take_every_descriptor,

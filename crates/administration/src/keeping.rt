@@ -1,6 +1,6 @@
 //! Serving a client whose batches are kept.
 
-ghost use Rattle.std.specs.Prelude.{◌≡◌, ◌≢◌, ◌≤◌, ◌-◌, ◌++◌, ℕ, List, [], length, take, IfOk, IfSome, IsErrOf, MatchOption, MatchResult, OnErr, OnOk, false, true};
+ghost use Rattle.std.specs.Prelude.{◌≡◌, ◌≢◌, ◌≤◌, ◌-◌, ◌++◌, ℕ, List, [], length, take, IfOk, IfSome, IsErrOf, MatchOption, MatchResult, OnErr, OnOk, Err, false, true};
 ghost use Rattle.std.specs.Result.{is_err};
 ghost use Rattle.streams.specs.Sent.{IsSent, IsCutSomewhere};
 ghost use Rattle.streams.specs.Sides.{sides_view};
@@ -12,13 +12,14 @@ ghost use Rattle.administration.specs.Reading.{IsOther};
 ghost use Rattle.administration.specs.Serving.{ArePublished, AreSubmitted, HasAdministered, HasDone, attended, lines_of};
 ghost use Rattle.administration.specs.declared.group.TheConstants.{MAX_GROUP};
 ghost use Rattle.administration.specs.declared.keeping.AdministerFault.TheVariants as fault;
+ghost use Rattle.journalfile.specs.declared.cause.LogCause.{LogCause};
 
 use crate::client::Client;
 use crate::done::{Done, send_line};
 use crate::group::{Group, Next, Other, read_group};
 use crate::results::{Front, Results, send_results};
 use crate::serving::publish;
-use journalfile::Keeps;
+use journalfile::{Keeps, LogCause};
 use mapshare::{Accepted, Admin, KeepFailed, Retried, Sharing};
 use std::sync::Wait;
 use streams::{BufferedSource, Sink, Source, put_all};
@@ -28,8 +29,9 @@ use streams::{BufferedSource, Sink, Source, put_all};
 pub enum AdministerFault {
     /// The writer failed. The commands that were read are done, although their lines weren't written, or not all of them.
     PutFailed,
-    /// The keeper of batches failed, and the client was sent `FAILED` for each batch that it may not have kept. The service has to stop.
-    KeepFailed,
+    /// The keeper of batches failed, for this cause, and the client was sent `FAILED` for each batch that it may not have kept. The service
+    /// has to stop.
+    KeepFailed(LogCause),
 }
 
 // Publishes the pending batches, where some were just accepted, and returns the sequence after them. There is none where there was no memory.
@@ -144,15 +146,15 @@ fn report<O: Sink>(
     ensures sent { OnOk result ((is_err kept ≡ false) × IsSent O.held O.taken writer.old (lines_of results.now) writer.new) }
     ensures cut { IsErrOf result fault.PutFailed
         → (is_err kept ≡ false) × IsCutSomewhere O.held O.taken writer.old (lines_of results.now) writer.new }
-    ensures failed { IsErrOf result fault.KeepFailed
-        → (is_err kept ≡ true)
+    ensures failed { (cause : LogCause) → IsErrOf result (fault.KeepFailed cause)
+        → (kept ≡ Err (record { cause = cause }))
         × IsReported O.held O.taken writer.old (lines_of results.now ++ failed_lines (batches - length results.now)) writer.new }
     ensures flag { MatchResult result (λ _. O.put_failed writer.new ≡ O.put_failed writer.old)
         (λ why. why ≡ fault.PutFailed → O.put_failed writer.new ≡ true) }
 {
-    if kept.is_err() {
+    if let Err(KeepFailed { cause }) = kept {
         send_failures(writer, results, batches - results.as_slice().len());
-        return Err(AdministerFault::KeepFailed);
+        return Err(AdministerFault::KeepFailed(cause));
     }
     send_results(writer, results).map_err(|_| AdministerFault::PutFailed)
 }
@@ -171,7 +173,7 @@ pub fn administer_kept<S: Sharing, K: Keeps, R: AllocGlobal + Wait, I: BufferedS
         (HasAdministered S.opening (sides_view ⟦<I as Source>⟧ ⟦<O as Sink>⟧) (attended client.old admin) (attended client.new result.0)) }
     ensures stopped { IsErrOf result.1 fault.PutFailed
         → IsCutShort S.opening (sides_view ⟦<I as Source>⟧ ⟦<O as Sink>⟧) (attended client.old admin) (attended client.new result.0) }
-    ensures failed { IsErrOf result.1 fault.KeepFailed
+    ensures failed { (cause : LogCause) → IsErrOf result.1 (fault.KeepFailed cause)
         → IsFailed S.opening (sides_view ⟦<I as Source>⟧ ⟦<O as Sink>⟧) (attended client.old admin) (attended client.new result.0) }
 
     // All accepted batches are kept, unless the keeper failed.

@@ -59,6 +59,24 @@ fn one_of_which_little_is_undone_is_due_at_twice_its_length(rt: HostRuntime) -> 
 }
 
 #[test]
+fn one_whose_place_no_other_takes_keeps_on(rt: HostRuntime) -> Result<(), Fail> {
+    let alloc = rt.alloc();
+    let checkpoint = Checkpoint {
+        least: 200,
+        due: 200,
+    };
+    let batches = batches_of(alloc, CLEARS)?;
+    let tape = empty(alloc)?.fixed();
+    let kept = keep_compacted(alloc, tape, checkpoint, &batches)?.ok_or(AllocError)?;
+    // It has 200 bytes with the third, and 402 with the seventh.
+    let expected = " 1+0<200 2+0<200 3+0<400 4+0<400 5+0<400 6+0<400 7+0<804";
+    assert_eq!(rt; kept.notes.as_str(), expected);
+    let all = journal_of(alloc, &PLAIN, CLEARS)?;
+    assert!(rt; kept.is_kept && kept.journal.log.bytes() == all.as_slice());
+    Ok(())
+}
+
+#[test]
 fn without_a_checkpoint_a_journal_grows(rt: HostRuntime) -> Result<(), Fail> {
     let alloc = rt.alloc();
     let kept = keep(alloc, empty(alloc)?, &batches_of(alloc, CLEARS)?)?.ok_or(AllocError)?;

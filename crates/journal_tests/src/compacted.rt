@@ -61,7 +61,7 @@ fn compact(alloc: Global, bytes: Vec<u8>) -> Result<Option<(Tape, bool)>, AllocE
     let Some(Opened { mut journal, .. }) = start(alloc, Tape::new(alloc, bytes, 1_000))? else {
         return Ok(None);
     };
-    let is_compacted = matches!(journal.compact(), Ok(true));
+    let is_compacted = matches!(journal.compact(), Ok(None));
     Ok(Some((journal.log, is_compacted)))
 }
 
@@ -163,7 +163,7 @@ fn the_journal_knows_its_name_and_length(rt: HostRuntime) -> Result<(), Fail> {
         machine,
     } = start(alloc, tape)?.ok_or(AllocError)?;
     assert_eq!(rt; journal.length, 599);
-    assert!(rt; matches!(journal.compact(), Ok(true)));
+    assert!(rt; matches!(journal.compact(), Ok(None)));
     assert!(rt; journal.name == compacted(4, 4));
     assert_eq!(rt; journal.count, 4);
     assert_eq!(rt; journal.length, 350);

@@ -62,7 +62,7 @@ fn outlive_a_compaction(alloc: Global, room: usize) -> Result<Option<Tape>, Allo
         return Ok(None);
     };
     let from = journal.log.past.len();
-    let is_compacted = matches!(journal.compact(), Ok(true));
+    let is_compacted = matches!(journal.compact(), Ok(None));
     if is_compacted != (room >= LENGTHS[0]) {
         return Ok(None);
     }

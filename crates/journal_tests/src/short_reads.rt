@@ -1,11 +1,7 @@
 ghost use Rattle.std.specs.Prelude.{[]};
 
-use journalfile::Log;
+use journalfile::{Log, LogCause};
 use std::io::Read;
-
-/// A read failed.
-#[derive(Drop)]
-pub struct ReadFailed;
 
 /// A log in memory. Each read returns so many bytes at most, and the read of a number fails, counted from 0. Nothing is proved of it.
 #[derive(Drop)]
@@ -17,7 +13,7 @@ pub struct ShortReads {
 }
 
 impl Log for ShortReads {
-    type Failure = ReadFailed;
+    type Failure = LogCause;
 
     ghost reliable = { ⊥ };
 
@@ -35,27 +31,29 @@ impl Log for ShortReads {
 
     ghost only_now = { λ reliable. absurd reliable };
 
-    fn read_at(&mut self, offset: usize, room: &mut [u8]) -> Result<usize, ReadFailed> {
+    fn read_at(&mut self, offset: usize, room: &mut [u8]) -> Result<usize, LogCause> {
         let is_failing = self.failing == Some(self.reads);
         self.reads = self.reads.saturating_add(1);
         if is_failing {
-            return Err(ReadFailed);
+            return Err(LogCause::Other);
         }
         let most = self.most.min(room.len());
         let mut left = self.bytes.get(offset..).unwrap_or(&[]);
-        left.read(&mut room[..most]).map_err(|_| ReadFailed)
+        left.read(&mut room[..most]).map_err(|_| LogCause::Other)
     }
 
-    fn append(&mut self, bytes: &[u8]) -> Result<(), ReadFailed> {
-        self.bytes.extend_from_slice(bytes).map_err(|_| ReadFailed)
+    fn append(&mut self, bytes: &[u8]) -> Result<(), LogCause> {
+        self.bytes
+            .extend_from_slice(bytes)
+            .map_err(|_| LogCause::Other)
     }
 
-    fn cut(&mut self, end: usize) -> Result<(), ReadFailed> {
+    fn cut(&mut self, end: usize) -> Result<(), LogCause> {
         self.bytes.truncate(end);
         Ok(())
     }
 
-    fn sync(&mut self) -> Result<(), ReadFailed> {
+    fn sync(&mut self) -> Result<(), LogCause> {
         Ok(())
     }
 }

@@ -166,6 +166,7 @@ pub fn keep_compacted(
     let mut compacted = CompactedJournal {
         journal,
         checkpoint,
+        is_reported: false,
     };
     let (is_kept, notes) = keep_each::<CompactedJournal<Tape>>(alloc, &mut compacted, batches)?;
     Ok(Some(Kept {

@@ -1,15 +1,26 @@
 //! A log in memory that stops at any byte, as by a crash.
 
-ghost use Rattle.std.specs.Prelude.{◌≡◌, ◌⊎◌, ◌≤◌, [], ◌∷◌, ◌++◌, length, min, take, drop, IfOk, OnOk, OnErr};
+ghost use Rattle.std.specs.Prelude.{◌≡◌, ◌⊎◌, ◌≤◌, true, [], ◌∷◌, ◌++◌, length, min, take, drop, IfOk, OnOk, OnErr};
 ghost use Rattle.std.proofs.Common.{inl};
 ghost use Rattle.journal_tests.specs.Tape.{IsLeft, WasOnce, only_here};
 
-use journalfile::{Log, Replaceable};
+use journalfile::{Log, LogCause, LogFailure, NotCompacted, ReplaceFault, Replaceable};
 use std::alloc::{AllocError, Global};
 
 /// The tape has stopped.
 #[derive(Clone, Copy, Debug, PartialEq, Eq)]
 pub struct TapeFailed;
+
+impl LogFailure for TapeFailed {
+    ghost use Rattle.journalfile.specs.declared.cause.LogCause.TheVariants.{Full};
+
+    ghost cause = { λ _. Full };
+
+    // A tape stops where it has no room.
+    fn cause(&self) -> LogCause {
+        LogCause::Full
+    }
+}
 
 // What a tape had at a moment: its bytes, and how many of them a crash left at least.
 #[derive(Drop)]
@@ -28,6 +39,8 @@ pub struct Tape {
     // How many bytes are still taken. The call that has no room for all of its bytes takes the first of them, and no later call works.
     room: usize,
     has_stopped: bool,
+    // No other tape takes its place.
+    is_fixed: bool,
     syncs: usize,
 }
 
@@ -43,8 +56,17 @@ impl Tape {
             past: Vec::new(alloc),
             room,
             has_stopped: false,
+            is_fixed: false,
             syncs: 0,
         }
+    }
+
+    /// The same tape, whose place no other one takes, as a file that is mounted by itself.
+    pub fn fixed(mut self) -> Self
+        ensures { result ≡ record self { is_fixed = true } }
+    {
+        self.is_fixed = true;
+        self
     }
 
     /// The bytes, of which a crash leaves `synced` at least.
@@ -180,11 +202,17 @@ impl Replaceable for Tape {
         Ok(Tape::new(self.alloc, Vec::new(self.alloc), self.room))
     }
 
-    fn replace(&mut self, successor: Self) -> Result<(), TapeFailed> {
+    fn replace(&mut self, successor: Self) -> Result<(), ReplaceFault<TapeFailed>> {
         if self.has_stopped {
-            return Err(TapeFailed);
+            return Err(ReplaceFault::Failed(TapeFailed));
         }
-        note(self.alloc, &self.bytes, self.synced, &mut self.past)?;
+        if self.is_fixed {
+            return Err(ReplaceFault::NotReplaced(TapeFailed));
+        }
+        match note(self.alloc, &self.bytes, self.synced, &mut self.past) {
+            Ok(()) => {}
+            Err(_) => return Err(ReplaceFault::NotReplaced(TapeFailed)),
+        }
         let Tape {
             bytes,
             synced,
@@ -200,4 +228,6 @@ impl Replaceable for Tape {
     }
 
     fn discard(self) {}
+
+    fn report(&self, _why: NotCompacted) {}
 }

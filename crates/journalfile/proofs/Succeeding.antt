@@ -1,5 +1,5 @@
 -- A journal and its successor.
-use Rattle.std.proofs.Common.{◌≡◌, inl, inr, ℕ, ◌+◌, Bool, true, false, List, ◌++◌, refl, sym, ◌∙◌, subst}
+use Rattle.std.proofs.Common.{◌≡◌, ◌⊎◌, inl, inr, ⊎_elim, ℕ, ◌+◌, ◌≤◌, Option, None, Some, List, ◌++◌, length, refl, sym, ◌∙◌, ap, subst}
 use mathlib.Core.List.{IsPrefix}
 use Rattle.batches.specs.Batch.{accepted}
 use Rattle.compaction.specs.Compacted.{compacted, skipping}
@@ -7,14 +7,20 @@ use Rattle.compaction.proofs.Counting.{skipping-more}
 use Rattle.compaction.proofs.Leading.{leads_to_the_same}
 use Rattle.sharing.specs.Shortened.{IsShortOf}
 use Rattle.sharing.proofs.Shortened.{short_again, short_more}
-use Rattle.journal.specs.Name.{IsBounded, skipped_of}
+use Rattle.sha2.specs.Sha256.{sha256}
+use Rattle.journal.specs.Name.{IsBounded, name_bytes, skipped_of, written_of}
+use Rattle.journal.specs.Record.{journal_of}
 use Rattle.journal.specs.declared.name.JournalName.{JournalName}
 use Rattle.journal.specs.Reading.{StandsFor, StandsForFirst}
 use Rattle.journal.proofs.Standing.{stands}
 use Rattle.journalfile.specs.Compacting.{HasCompacted, IsCompacted, StandsForLeft, compacted_name, left_out}
+use Rattle.journalfile.specs.Frames.{IsRead}
 use Rattle.journalfile.specs.Keeping.{FileHas, JournalHas, settled_stands}
+use Rattle.journalfile.specs.Log.{Elapses, LeavesOnly, NoOther}
 use Rattle.journalfile.specs.Settled.{IsSettled}
+use Rattle.journalfile.specs.declared.reading.NotCompacted.{NotCompacted}
 use Rattle.journalfile.specs.declared.writing.Journal.{Journal}
+use Rattle.journalfile.proofs.Moments.{goes_on, weaker}
 
 -- what is left of batches is short of all that they are short of
 pub shorter : (skipped : ℕ) (own batches : List (List ℕ)) → IsShortOf accepted skipping skipped own batches → IsShortOf accepted skipping (skipped + left_out own) (compacted own) batches
@@ -30,6 +36,28 @@ module _ {L : Type 0} (content : L → List ℕ) (may_leave : L → List ℕ →
   -- those of the journal before it, too
   pub unreplaced : (old : Journal L) (own : List (List ℕ)) → IsSettled content may_leave old own → (file : List ℕ) → may_leave old.log file → StandsForLeft old.name own file
   unreplaced old own settled file left = inl (settled_stands content may_leave old own settled file left)
+
+  -- while the successor's log takes the place of the journal's, a crash leaves the batches of one of them
+  pub taking_place : (moment : L → ℕ) (left_since : L → ℕ → List ℕ → Type 0) (old successor : Journal L) (mid new : L) (own : List (List ℕ))
+      → IsSettled content may_leave old own → IsCompacted content may_leave old.name own successor → IsRead content may_leave moment left_since old.log mid
+      → Elapses (moment mid) (moment new) (left_since mid) (left_since new) (may_leave new)
+      → ((file : List ℕ) → may_leave new file → may_leave mid file ⊎ (file ≡ content successor.log))
+      → LeavesOnly moment left_since old.log new (StandsForLeft old.name own)
+  taking_place moment left_since old successor mid new own settled is read time crash =
+      let here = unreplaced old own settled in
+      goes_on moment left_since old.log mid new (StandsForLeft old.name own) (may_leave new)
+      (weaker moment left_since old.log mid (may_leave old.log) (StandsForLeft old.name own) read.any_moment here) time
+      (λ f left. ⊎_elim (λ l. here f (read.crash f l)) (succeeded old successor own is f) (crash f left))
+
+  -- a journal whose log has its bytes, and is as settled as it was, is settled with the same batches
+  pub still_settled : (old new : Journal L) (own : List (List ℕ)) → IsSettled content may_leave old own → content new.log ≡ content old.log → NoOther (may_leave old.log) (may_leave new.log)
+      → new.name ≡ old.name → new.count ≡ old.count → IsSettled content may_leave new own
+  still_settled old new own settled same crash named counted = record {
+    file = same ∙ settled.file ∙ ap (λ n. journal_of sha256 (name_bytes n) own) (sym named);
+    count = counted ∙ settled.count;
+    enough = subst (λ n. written_of n.compaction ≤ length own) (sym named) settled.enough;
+    durable = λ f left. settled.durable f (crash f left) ∙ sym same;
+  }
 
   -- both have the batches that the journal had
   pub left_has : (old : Journal L) (batches : List (List ℕ)) → (has : JournalHas content may_leave old batches) → (file : List ℕ) → StandsForLeft old.name has.own file → FileHas old.name.fingerprint file batches
@@ -88,7 +116,7 @@ module _ {L : Type 0} (content : L → List ℕ) (may_leave : L → List ℕ →
   )
 
   -- a compacted journal has what it had, and so has one that wasn't
-  pub has_after : (old new : Journal L) (batches : List (List ℕ)) → (has : JournalHas content may_leave old batches) → (is_compacted : Bool) → HasCompacted content may_leave old new has.own is_compacted
+  pub has_after : (old new : Journal L) (batches : List (List ℕ)) → (has : JournalHas content may_leave old batches) → (why : Option NotCompacted) → HasCompacted content may_leave old new has.own why
       → JournalHas content may_leave new batches
-  has_after old new batches has true is = compacted_has old new batches has is
-  has_after old new batches has false (settled, named) = unchanged_has old new batches has settled named
+  has_after old new batches has None is = compacted_has old new batches has is
+  has_after old new batches has (Some why) (settled, named) = unchanged_has old new batches has settled named

@@ -1,5 +1,5 @@
 -- A journal that is compacted (docs/SERVICE.md, "Journal").
-use Rattle.std.specs.Prelude.{◌≡◌, ◌⊎◌, ◌^◌, ℕ, ◌+◌, ◌-◌, ◌*◌, max, min, List, ◌++◌, length, drop, Bool, true, false, Some}
+use Rattle.std.specs.Prelude.{◌≡◌, ◌⊎◌, ◌^◌, ℕ, ◌+◌, ◌-◌, ◌*◌, max, min, List, ◌++◌, length, drop, Option, None, Some}
 use Rattle.sha2.specs.Sha256.{sha256}
 use Rattle.compaction.specs.Compacted.{commands_of, compacted}
 use Rattle.journal.specs.Name.{IsBounded, journal_name, name_bytes, skipped_of}
@@ -8,6 +8,7 @@ use Rattle.journal.specs.Record.{records}
 use Rattle.journal.specs.Reading.{StandsFor}
 use Rattle.journalfile.specs.Settled.{IsSettled}
 use Rattle.journalfile.specs.declared.checkpoint.Checkpoint.{Checkpoint}
+use Rattle.journalfile.specs.declared.reading.NotCompacted.{NotCompacted}
 use Rattle.journalfile.specs.declared.reading.Reader.{Reader}
 use Rattle.journalfile.specs.declared.writing.Journal.{Journal}
 
@@ -42,9 +43,9 @@ pub record IsCompacted {L : Type 0} (content : L → List ℕ) (may_leave : L �
   pub bounded : IsBounded journal.name.compaction
 
 -- a journal was compacted, or it has the batches that it had
-abbrev pub HasCompacted : {L : Type 0} → (L → List ℕ) → (L → List ℕ → Type 0) → Journal L → Journal L → List (List ℕ) → Bool → Type 0
-HasCompacted content may_leave old new batches true = IsCompacted content may_leave old.name batches new
-HasCompacted content may_leave old new batches false = IsSettled content may_leave new batches × (new.name ≡ old.name)
+abbrev pub HasCompacted : {L : Type 0} → (L → List ℕ) → (L → List ℕ → Type 0) → Journal L → Journal L → List (List ℕ) → Option NotCompacted → Type 0
+HasCompacted content may_leave old new batches None = IsCompacted content may_leave old.name batches new
+HasCompacted content may_leave old new batches (Some why) = IsSettled content may_leave new batches × (new.name ≡ old.name)
 
 -- a file stands for the batches of a journal; or for what is left of them, under their name
 abbrev pub StandsForLeft : JournalName → List (List ℕ) → List ℕ → Type 0

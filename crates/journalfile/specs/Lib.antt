@@ -1,5 +1,6 @@
 pub mod Log
 pub mod Frames
+pub mod Replacing
 pub mod Steps
 pub mod Settled
 pub mod Keeping

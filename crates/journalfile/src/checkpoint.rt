@@ -1,6 +1,6 @@
 //! A journal that is written again without the commands that later ones undo, and takes its own place.
 
-ghost use Rattle.std.specs.Prelude.{◌≡◌, ◌<◌, ◌≤◌, ◌+◌, ◌-◌, [], List, ℕ, Some, length, IfOk, OnOk};
+ghost use Rattle.std.specs.Prelude.{◌≡◌, ◌<◌, ◌≤◌, ◌+◌, ◌-◌, [], List, ℕ, None, Some, Ok, length, IfOk, OnOk};
 ghost use Rattle.sha2.specs.Sha256.{sha256};
 ghost use Rattle.compaction.specs.Compacted.{commands_of, compacted};
 ghost use Rattle.compaction.specs.LastChanges.{AreLast};
@@ -15,7 +15,7 @@ ghost use Rattle.journalfile.specs.Settled.{IsSettled};
 use crate::compacting::{count_left, last_changes, write_left};
 use crate::log::Log;
 use crate::reading::{NotCompacted, Records};
-use crate::replaceable::Replaceable;
+use crate::replaceable::{ReplaceFault, Replaceable};
 use crate::writing::Journal;
 use compaction::LastChanges;
 use journal::{Compaction, JournalName};
@@ -42,7 +42,7 @@ fn beside<L: Replaceable>(journal: &mut Journal<L>, left: u64) -> Result<Journal
 {
     let out = journal.count - left;
     let Some(skipped) = journal.name.skipped().checked_add(out) else {
-        return Err(NotCompacted);
+        return Err(NotCompacted::unread());
     };
     let name = JournalName {
         fingerprint: journal.name.fingerprint,
@@ -59,7 +59,7 @@ fn beside<L: Replaceable>(journal: &mut Journal<L>, left: u64) -> Result<Journal
             count: 0,
             length: 0,
         }),
-        Err(_) => Err(NotCompacted),
+        Err(failure) => Err(NotCompacted::failed(failure)),
     }
 }
 
@@ -82,7 +82,7 @@ fn write_synced<L: Log>(
     write_left(records, log, changes, successor)?;
     match successor.log.sync() {
         Ok(()) => Ok(()),
-        Err(_) => Err(NotCompacted),
+        Err(failure) => Err(NotCompacted::failed(failure)),
     }
 }
 
@@ -115,11 +115,11 @@ fn successor_of<L: Replaceable>(journal: &mut Journal<L>) -> Result<Journal<L>, 
 
 impl<L: Replaceable> Journal<L> {
     /// Writes the journal again without the commands that later ones undo and the batches of which none is left, on a log that takes the
-    /// place of its own. It returns whether it did so: where memory is refused, or the other log can't be made, written or synced, the
-    /// journal has the batches that it had. After an error the journal has to be opened again.
-    pub fn compact(&mut self) -> Result<bool, L::Failure>
-        ensures compacted { L.reliable → IfOk result (λ is_compacted. (own : List (List ℕ)) → IsSettled L.content L.may_leave self.old own
-            → HasCompacted L.content L.may_leave self.old self.new own is_compacted) }
+    /// place of its own. It returns why it didn't, if it didn't: where memory is refused, or the other log can't be made, written, synced
+    /// or put in its place, the journal has the batches that it had. After an error the journal has to be opened again.
+    pub fn compact(&mut self) -> Result<Option<NotCompacted>, L::Failure>
+        ensures compacted { L.reliable → IfOk result (λ why. (own : List (List ℕ)) → IsSettled L.content L.may_leave self.old own
+            → HasCompacted L.content L.may_leave self.old self.new own why) }
 
         // A crash at any moment leaves its batches, or what is left of them under its next name.
         ensures any_moment { L.reliable → (own : List (List ℕ)) → IsSettled L.content L.may_leave self.old own
@@ -127,8 +127,9 @@ impl<L: Replaceable> Journal<L> {
 
         ensures of_map { self.new.name.fingerprint ≡ self.old.name.fingerprint }
     {
-        let Ok(successor) = successor_of(self) else {
-            return Ok(false);
+        let successor = match successor_of(self) {
+            Ok(successor) => successor,
+            Err(why) => return Ok(Some(why)),
         };
         let Journal {
             log,
@@ -137,11 +138,17 @@ impl<L: Replaceable> Journal<L> {
             length,
             ..
         } = successor;
-        self.log.replace(log)?;
+        match self.log.replace(log) {
+            Ok(()) => {}
+            Err(ReplaceFault::NotReplaced(failure)) => {
+                return Ok(Some(NotCompacted::failed(failure)));
+            }
+            Err(ReplaceFault::Failed(failure)) => return Err(failure),
+        }
         self.name = name;
         self.count = count;
         self.length = length;
-        Ok(true)
+        Ok(None)
     }
 }
 
@@ -152,12 +159,38 @@ pub struct CompactedJournal<L> {
     pub journal: Journal<L>,
     /// When it is compacted.
     pub checkpoint: Checkpoint,
+    /// That it is due and isn't compacted is reported.
+    pub is_reported: bool,
 }
 
 impl<L: Replaceable> CompactedJournal<L> {
-    /// Compacts the journal where it is due, and says when it is due next: where it has twice the bytes that it has now, and the least
-    /// length at least. Before it is due, nothing changes.
-    pub(crate) fn compact_where_due(&mut self) -> Result<(), L::Failure>
+    // Compacts the journal where it is due, and says when it is due next: where it has twice the bytes that it has now, and the least
+    // length at least. Before it is due, nothing changes. It returns why it isn't compacted, where it is due and isn't.
+    fn try_where_due(&mut self) -> Result<Option<NotCompacted>, L::Failure>
+        ensures early { self.old.journal.length < self.old.checkpoint.due → (self.new ≡ self.old) × (result ≡ Ok None) }
+        ensures next { self.old.checkpoint.due ≤ self.old.journal.length
+            → OnOk result (self.new.checkpoint ≡ next_checkpoint self.old.checkpoint self.new.journal.length) }
+        ensures compacted { L.reliable → self.old.checkpoint.due ≤ self.old.journal.length → IfOk result (λ why. (own : List (List ℕ))
+            → IsSettled L.content L.may_leave self.old.journal own → HasCompacted L.content L.may_leave self.old.journal self.new.journal own why) }
+        ensures has { L.reliable → OnOk result ((batches : List (List ℕ)) → JournalHas L.content L.may_leave self.old.journal batches
+            → JournalHas L.content L.may_leave self.new.journal batches) }
+        ensures any_moment { L.reliable → (batches : List (List ℕ)) → JournalHas L.content L.may_leave self.old.journal batches
+            → LeavesOnly L.moment L.left_since self.old.journal.log self.new.journal.log (λ file. FileHas self.old.journal.name.fingerprint file batches) }
+        ensures of_map { self.new.journal.name.fingerprint ≡ self.old.journal.name.fingerprint }
+    {
+        if self.journal.length < self.checkpoint.due {
+            return Ok(None);
+        }
+        let why = self.journal.compact()?;
+        let twice = self.journal.length.saturating_mul(2);
+        self.checkpoint.due = twice.max(self.checkpoint.least);
+        Ok(why)
+    }
+
+    /// Compacts the journal where it is due, as each batch does that is kept, and reports why it isn't compacted, where it is due and that is
+    /// requested. It is due again where it has twice the bytes that it has then, and the least length at least. Before it is due, nothing
+    /// changes. After an error the journal has to be opened again.
+    pub fn compact_where_due(&mut self) -> Result<(), L::Failure>
         ensures early { self.old.journal.length < self.old.checkpoint.due → self.new ≡ self.old }
         ensures next { self.old.checkpoint.due ≤ self.old.journal.length
             → OnOk result (self.new.checkpoint ≡ next_checkpoint self.old.checkpoint self.new.journal.length) }
@@ -167,12 +200,10 @@ impl<L: Replaceable> CompactedJournal<L> {
             → LeavesOnly L.moment L.left_since self.old.journal.log self.new.journal.log (λ file. FileHas self.old.journal.name.fingerprint file batches) }
         ensures of_map { self.new.journal.name.fingerprint ≡ self.old.journal.name.fingerprint }
     {
-        if self.journal.length < self.checkpoint.due {
-            return Ok(());
+        match self.try_where_due()? {
+            Some(why) if self.is_reported => self.journal.log.report(why),
+            _ => {}
         }
-        self.journal.compact()?;
-        let twice = self.journal.length.saturating_mul(2);
-        self.checkpoint.due = twice.max(self.checkpoint.least);
         Ok(())
     }
 }

@@ -63,7 +63,7 @@ fn append<L: Log>(journal: &mut Journal<L>, bytes: &[u8]) -> Result<(), NotCompa
     journal.length = journal.length.saturating_add(bytes.len() as u64);
     match journal.log.append(bytes) {
         Ok(()) => Ok(()),
-        Err(_) => Err(NotCompacted),
+        Err(failure) => Err(NotCompacted::failed(failure)),
     }
 }
 
@@ -86,7 +86,7 @@ fn add_batch<L: Log>(journal: &mut Journal<L>, batch: &[u8]) -> Result<(), NotCo
     ensures name { journal.new.name ≡ journal.old.name }
 {
     if journal.count == u64::MAX {
-        return Err(NotCompacted);
+        return Err(NotCompacted::unread());
     }
     let number = journal.count + 1;
     let mut bytes = Vec::new(journal.alloc);

@@ -8,6 +8,7 @@ ghost use Rattle.journal.specs.Reading.{StandsFor};
 ghost use Rattle.journalfile.specs.Keeping.{FileHas, KeepsShorter, keeps_of, kept_stands, may_leave_of, option_stays, settled_stands, stands_of};
 ghost use Rattle.journalfile.specs.Settled.{GarblesNoRecord, IsSettled};
 
+use crate::cause::{LogCause, LogFailure};
 use crate::checkpoint::CompactedJournal;
 use crate::log::Log;
 use crate::replaceable::Replaceable;
@@ -18,8 +19,8 @@ use crate::writing::{Journal, PutFault};
 pub enum KeepFault {
     /// Memory was refused, and nothing was done.
     NoMemory,
-    /// It failed. How many of the batches are kept is unknown, and no further one may be.
-    Failed,
+    /// It failed, and this is the cause. How many of the batches are kept is unknown, and no further one may be.
+    Failed(LogCause),
 }
 
 /// A keeper of accepted batches, before they are published: a journal, or nothing where they needn't outlive the
@@ -105,7 +106,7 @@ impl<L: Log> Keeps for Journal<L> {
         match self.put(batches) {
             Ok(()) => Ok(()),
             Err(PutFault::NoMemory) => Err(KeepFault::NoMemory),
-            Err(PutFault::Failed(_)) => Err(KeepFault::Failed),
+            Err(PutFault::Failed(failure)) => Err(KeepFault::Failed(failure.cause())),
         }
     }
 }
@@ -128,11 +129,11 @@ impl<L: Replaceable> Keeps for CompactedJournal<L> {
         match self.journal.put(batches) {
             Ok(()) => {}
             Err(PutFault::NoMemory) => return Err(KeepFault::NoMemory),
-            Err(PutFault::Failed(_)) => return Err(KeepFault::Failed),
+            Err(PutFault::Failed(failure)) => return Err(KeepFault::Failed(failure.cause())),
         }
         match self.compact_where_due() {
             Ok(()) => Ok(()),
-            Err(_) => Err(KeepFault::Failed),
+            Err(failure) => Err(KeepFault::Failed(failure.cause())),
         }
     }
 }

@@ -16,6 +16,7 @@
 //! that lead to the same state.
 #![tactic(auto)]
 
+mod cause;
 mod checkpoint;
 mod compacting;
 mod frames;
@@ -29,9 +30,11 @@ mod replaceable;
 mod steps;
 mod writing;
 
+pub use cause::{LogCause, LogFailure};
 pub use checkpoint::{Checkpoint, CompactedJournal};
 pub use keeps::{KeepFault, Keeps, Nowhere};
 pub use log::Log;
+pub use reading::NotCompacted;
 pub use recovery::{RecoverFault, Recovered, read_name, recover};
-pub use replaceable::Replaceable;
+pub use replaceable::{ReplaceFault, Replaceable};
 pub use writing::{Journal, PutFault};

@@ -3,11 +3,13 @@
 ghost use Rattle.std.specs.Prelude.{◌≡◌, ◌<◌, ◌≤◌, [], ◌++◌, List, ℕ, length, take, drop, IfOk, OnOk};
 ghost use Rattle.journalfile.specs.Log.{Torn, Cut, Follows, NoOther, Only, Elapses};
 
+use crate::cause::LogFailure;
+
 /// Bytes that grow at their end and outlive a crash, as a file on a disk. Each call may fail. A crash may come at any moment, also
 /// within a call. Each clause holds of a log that is reliable.
 pub trait Log {
     /// The failure of a call. Nothing but a log makes one.
-    type Failure: Drop;
+    type Failure: Drop + LogFailure;
 
     /// The log is as its clauses state. Of a file of the system that isn't known.
     ghost reliable: { Type 0 };

@@ -9,6 +9,7 @@ ghost use Rattle.journal.specs.Record.{journal_of};
 ghost use Rattle.journalfile.specs.Compacting.{HasLeft, HasRead};
 ghost use Rattle.journalfile.specs.Frames.{IsAhead, IsRead};
 
+use crate::cause::{LogCause, LogFailure};
 use crate::frames::{Frames, ReadError};
 use crate::header::read_header;
 use crate::log::Log;
@@ -19,24 +20,58 @@ use journal::JournalName;
 use std::alloc::{AllocError, Global};
 
 /// A journal isn't compacted: memory was refused, a log failed, or a record isn't read that was written.
-#[derive(Drop)]
-pub(crate) struct NotCompacted;
+#[derive(Clone, Copy)]
+pub struct NotCompacted {
+    /// Why it isn't.
+    pub cause: LogCause,
+}
+
+impl NotCompacted {
+    // It isn't compacted, since a record isn't read that was written.
+    pub(crate) fn unread() -> Self
+        ensures { result ≡ record { cause = LogCause.Unread } }
+    {
+        NotCompacted {
+            cause: LogCause::Unread,
+        }
+    }
+
+    // It isn't compacted, since a call of a log failed.
+    pub(crate) fn failed<F: Drop + LogFailure>(failure: F) -> Self
+        ensures { result ≡ record { cause = F.cause failure } }
+    {
+        NotCompacted {
+            cause: failure.cause(),
+        }
+    }
+}
 
 impl From<AllocError> for NotCompacted {
     fn from(_: AllocError) -> Self {
-        NotCompacted
+        NotCompacted {
+            cause: LogCause::NoMemory,
+        }
     }
 }
 
-impl<F: Drop> From<ReadError<F>> for NotCompacted {
-    fn from(_: ReadError<F>) -> Self {
-        NotCompacted
+impl<F: Drop + LogFailure> From<ReadError<F>> for NotCompacted {
+    fn from(error: ReadError<F>) -> Self {
+        match error {
+            ReadError::NoMemory => NotCompacted::from(AllocError),
+            ReadError::Failed(failure) => NotCompacted::failed(failure),
+        }
     }
 }
 
-impl<F: Drop> From<RecoverFault<F>> for NotCompacted {
-    fn from(_: RecoverFault<F>) -> Self {
-        NotCompacted
+impl<F: Drop + LogFailure> From<RecoverFault<F>> for NotCompacted {
+    fn from(fault: RecoverFault<F>) -> Self {
+        match fault {
+            RecoverFault::NoMemory => NotCompacted::from(AllocError),
+            RecoverFault::Failed(failure) => NotCompacted::failed(failure),
+            RecoverFault::Header(_) | RecoverFault::Damaged(_) | RecoverFault::Refused(_) => {
+                NotCompacted::unread()
+            }
+        }
     }
 }
 
@@ -75,7 +110,7 @@ impl Reader {
         let mut frames = Frames::new(records.alloc);
         let name = read_header(&mut frames, log, &records.name.fingerprint)?;
         if !records.name.is_same(&name) {
-            return Err(NotCompacted);
+            return Err(NotCompacted::unread());
         }
         Ok(Reader {
             frames,
@@ -97,11 +132,11 @@ impl Reader {
         ensures log { L.reliable → IsRead L.content L.may_leave L.moment L.left_since log.old log.new }
     {
         if self.number == u64::MAX {
-            return Err(NotCompacted);
+            return Err(NotCompacted::unread());
         }
         let number = self.number + 1;
         let Some(batch) = next_record(&mut self.frames, log, &self.name, number)? else {
-            return Err(NotCompacted);
+            return Err(NotCompacted::unread());
         };
         self.number = number;
         Ok(batch)

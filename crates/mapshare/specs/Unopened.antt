@@ -11,6 +11,7 @@ no_state = record {
     extent = record { minx = pos 0; miny = pos 0; maxx = pos 1; maxy = pos 1 };
     png = false;
     mercator = false;
+    smoothing = 1;
     font = None;
     symbols = [];
     layers = [];

@@ -16,7 +16,7 @@ use crate::replica::{Replica, ReplicaValue};
 use crate::rule::{MapWriter, Moves, Ruled, Sharing, View};
 use crossbeam_utils::rule::Protocol;
 use history::{History, MAX_HISTORY, Prefix, Shown};
-use journalfile::{KeepFault, Keeps, Nowhere};
+use journalfile::{KeepFault, Keeps, LogCause, Nowhere};
 use left_right::Absorb;
 use mapmachine::{BatchError, BatchFault, Machine};
 use std::alloc::{AllocError, Global};
@@ -40,7 +40,10 @@ pub enum Submitted<S: Sharing> {
 
 /// The keeper of batches failed. How many of the batches are kept is unknown, and nothing was published.
 #[derive(Clone, Copy, Debug, PartialEq, Eq)]
-pub struct KeepFailed;
+pub struct KeepFailed {
+    /// Why it failed.
+    pub cause: LogCause,
+}
 
 /// The result of publishing the pending batches.
 #[derive(Drop)]
@@ -253,11 +256,13 @@ impl<S: Sharing> Admin<S> {
         let machine = match keep_and_copy(&checked, keeper, first) {
             Ok(machine) => machine,
             Err(KeepFault::NoMemory) => return Ok(Accepted::out_of_memory()),
-            Err(KeepFault::Failed) => return Err(KeepFailed),
+            Err(KeepFault::Failed(cause)) => return Err(KeepFailed { cause }),
         };
         let mut prefix = self.last.copy();
         if !add_all(&mut prefix, &self.history, first) {
-            return Err(KeepFailed);
+            return Err(KeepFailed {
+                cause: LogCause::Other,
+            });
         }
         let replica = Replica {
             machine,
@@ -301,7 +306,7 @@ impl<S: Sharing> Admin<S> {
         let mut nowhere = Nowhere;
         match self.submit_kept(rt, &mut nowhere, batch) {
             (admin, Ok(submitted)) => (admin, submitted),
-            (admin, Err(KeepFailed)) => (admin, Submitted::NoMemory),
+            (admin, Err(_)) => (admin, Submitted::NoMemory),
         }
     }
 

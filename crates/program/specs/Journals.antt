@@ -26,6 +26,8 @@ use Rattle.mapparse.specs.declared.files.FileBytes.{FileBytes}
 use Rattle.console.specs.Console.{Outcome, WriterState, IsReported}
 use Rattle.console.specs.declared.failure.Failure.{Failure}
 use Rattle.console.specs.declared.failure.Failure.TheVariants as failure
+use Rattle.journalfile.specs.declared.cause.LogCause.{LogCause}
+use Rattle.program.specs.Causes.{fault_of_cause}
 use Rattle.program.specs.declared.keeping.JournalFault.{JournalFault}
 use Rattle.program.specs.declared.keeping.JournalFault.TheVariants as fault
 use Rattle.program.specs.declared.host.OpenFault.{OpenFault}
@@ -86,6 +88,8 @@ log_message log_fault.NotAllowed = codes "the program may not read and write it"
 log_message log_fault.ReadOnly = codes "its file system is read-only"
 log_message log_fault.Full = codes "its disk is full"
 log_message log_fault.NoTarget = codes "it is a link to a file that isn't there"
+log_message log_fault.Appeared = codes "another program makes it"
+log_message log_fault.Replaced = codes "it was removed or replaced"
 log_message log_fault.Failed = codes "it can't be read or written"
 log_message log_fault.NoMemory = codes "out of memory"
 
@@ -163,7 +167,7 @@ cut_line path cut = codes "warning journal " ++ (path ++ (codes ": a torn record
 abbrev pub ReportsCut : Bool → List ℕ → ℕ → WriterState → WriterState → Type 0
 ReportsCut requested path cut old new = MatchBool (requested && not (cut == 0)) (IsReported old new (cut_line path cut)) (new ≡ old)
 
--- where the journal of a service failed, that is reported at its end
-abbrev pub ReportsEnd : List ℕ → Outcome → WriterState → WriterState → Type 0
-ReportsEnd path (Err failure.JournalFailed) old new = IsReported old new (journal_fault path (fault.Log log_fault.Failed))
-ReportsEnd path outcome old new = new ≡ old
+-- where the journal of a service failed, that is reported at its end, with the cause
+abbrev pub ReportsEnd : List ℕ → Outcome → Option LogCause → WriterState → WriterState → Type 0
+ReportsEnd path (Err failure.JournalFailed) cause old new = IsReported old new (journal_fault path (fault.Log (fault_of_cause cause)))
+ReportsEnd path outcome cause old new = new ≡ old

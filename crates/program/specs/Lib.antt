@@ -1,4 +1,5 @@
 pub mod Answering
+pub mod Causes
 pub mod Endings
 pub mod Explaining
 pub mod Hosts

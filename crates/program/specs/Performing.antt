@@ -1,5 +1,5 @@
 -- The effects of the program for a command on a host (docs/SERVICE.md, "The program").
-use Rattle.std.specs.Prelude.{◌≡◌, ◌⊎◌, ◌||◌, ◌==◌, ◌++◌, ℕ, Bool, MatchBool, MatchOption, List, [], Option, None, Some, IsSome, option_map, Err}
+use Rattle.std.specs.Prelude.{◌≡◌, ◌⊎◌, ◌<◌, ◌≤◌, ◌||◌, ◌==◌, ◌++◌, ℕ, Bool, MatchBool, MatchOption, List, [], Option, None, Some, IsSome, option_map, Err}
 use Rattle.std.specs.Io.KnownBytes.{Keeps}
 use Rattle.commandline.specs.declared.subcommand.Command.{Command}
 use Rattle.commandline.specs.declared.subcommand.Service.{Service}
@@ -8,6 +8,8 @@ use Rattle.console.specs.Console.{ConsoleState, WriterState, IsReported}
 use Rattle.console.specs.declared.failure.Failure.{Failure}
 use Rattle.console.specs.declared.failure.Failure.TheVariants.{JournalFailed}
 use Rattle.batches.specs.Batch.{State, accepted as accepted_by}
+use Rattle.journalfile.specs.Compacting.{next_checkpoint}
+use Rattle.journalfile.specs.declared.cause.LogCause.{LogCause}
 use Rattle.journalfile.specs.declared.writing.Journal.{Journal}
 use Rattle.sharing.specs.Sharing.{after}
 use Rattle.mapdefs.specs.declared.map.MapFields.{MapFields}
@@ -22,7 +24,7 @@ use Rattle.subcommands.specs.Folder.{Giving, IsParent}
 use Rattle.subcommands.specs.Mapfiles.{HasReadMapfile, GivesNoMap, ReportsWarnings, ChecksTo, RunsTo}
 use Rattle.subcommands.specs.Session.{PlaysTo, opened}
 use Rattle.subcommands.specs.declared.unread.UnreadCause.{UnreadCause}
-use Rattle.program.specs.Endings.{EndingValue, unserved, ended, ended_compacted}
+use Rattle.program.specs.Endings.{EndingValue, unserved, unstarted, ended, ended_compacted}
 use Rattle.service.specs.Serving.{ServedValue}
 use Rattle.journalfile.specs.declared.checkpoint.CompactedJournal.{CompactedJournal}
 use Rattle.program.specs.Hosts.{gives_in}
@@ -78,11 +80,25 @@ ServesMachine {P} {L} {K} host keeping begun ending old new =
     (ServesNothing ending × IsUnserved ending.outcome old new)
     ⊎ ((served : ServedValue P K) × (ending ≡ (keeping host).ended served) × IsServed host (keeping host).keeps begun served old new)
 
--- a machine was served with its journal, which is compacted where the options say so
-abbrev pub ServesJournal : {P L : Type 0} → HostView P L → Begun (Journal L) → EndingValue P L → WriterState → WriterState → Type 0
-ServesJournal host begun ending old new = MatchBool (begun.service.checkpoint == 0)
+-- a journal before a service, and as it begins: before it is due, it is as it was. Else it is due at twice its bytes, and has the batches that it had, or
+-- fewer that lead to the same state
+pub record IsBegun {L : Type 0} (view : JournalView L) (old new : CompactedJournal L) : Type 0 where
+  pub early : old.journal.length < old.checkpoint.due → new ≡ old
+  pub next : old.checkpoint.due ≤ old.journal.length → new.checkpoint ≡ next_checkpoint old.checkpoint new.journal.length
+  pub has : (batches : List (List ℕ)) → KeepsState view old batches → KeepsState view new batches
+
+-- a machine was served with its journal, which was compacted before, where it was due; or the log of the journal failed at that
+abbrev pub ServesCompacted : {P L : Type 0} → HostView P L → Begun (CompactedJournal L) → EndingValue P L → WriterState → WriterState → Type 0
+ServesCompacted {P} {L} host begun ending old new =
+    ((cause : LogCause) × (ending ≡ unstarted cause) × (new ≡ old))
+    ⊎ ((keeper : CompactedJournal L) × IsBegun host.journal begun.keeper keeper
+    × ServesMachine host by_compacted (record { machine = begun.machine; keeper = keeper; service = begun.service }) ending old new)
+
+-- a machine was served with its journal, which is compacted where the options say so; that it is due and isn't compacted is reported, where it is to be told
+abbrev pub ServesJournal : {P L : Type 0} → HostView P L → Bool → Begun (Journal L) → EndingValue P L → WriterState → WriterState → Type 0
+ServesJournal host told begun ending old new = MatchBool (begun.service.checkpoint == 0)
     (ServesMachine host by_journal (record { machine = begun.machine; keeper = Some begun.keeper; service = begun.service }) ending old new)
-    (ServesMachine host by_compacted (record { machine = begun.machine; keeper = record { journal = begun.keeper; checkpoint = checkpoint_of begun.service.checkpoint }; service = begun.service }) ending old new)
+    (ServesCompacted host (record { machine = begun.machine; keeper = record { journal = begun.keeper; checkpoint = checkpoint_of begun.service.checkpoint; is_reported = told }; service = begun.service }) ending old new)
 
 -- the output before and after, and the errors before and after
 pub record Written : Type 0 where
@@ -109,10 +125,10 @@ pub record IsJournalServed {P L : Type 0} (host : HostView P L) (requested : Req
   pub journal : Journal L
   pub cut : ℕ
   pub is_opened : IsOpened host.journal path read.fingerprint (opened read.map) machine journal cut
-  pub serves : ServesJournal host (record { machine = machine; keeper = journal; service = requested.service }) ending written.output written.later_output
+  pub serves : ServesJournal host (requested.explains || requested.service.logs) (record { machine = machine; keeper = journal; service = requested.service }) ending written.output written.later_output
   pub between : WriterState
   pub told : ReportsCut (requested.explains || requested.service.logs) path cut written.errors between
-  pub reported : ReportsEnd path ending.outcome between written.later_errors
+  pub reported : ReportsEnd path ending.outcome ending.cause between written.later_errors
 
 -- nothing was served, since the journal wasn't opened, which was reported
 pub record IsWithoutJournal {P L : Type 0} (host : HostView P L) (path : List ℕ) (read : FingerprintedMap) (ending : EndingValue P L) (written : Written) : Type 0 where

@@ -1,10 +1,10 @@
 ghost use Rattle.std.specs.Prelude.{◌≡◌, Err};
 ghost use Rattle.std.specs.Process.{exit_status};
 ghost use Rattle.console.specs.Console.{status_of};
-ghost use Rattle.program.specs.Endings.{ended, ended_compacted, unserved};
+ghost use Rattle.program.specs.Endings.{ended, ended_compacted, unserved, unstarted};
 
 use console::Failure;
-use journalfile::{CompactedJournal, Journal};
+use journalfile::{CompactedJournal, Journal, LogCause};
 use service::Served;
 use std::io::Eprint;
 use std::marker::Model;
@@ -17,6 +17,8 @@ use std::process::{ExitCode, Termination};
 #[derive(Drop)]
 pub struct Ending<P, L> {
     outcome: Result<(), Failure>,
+    // Why the journal failed, if it did once it was opened.
+    cause: Option<LogCause>,
     served: Option<Served<P, Option<Journal<L>>>>,
     compacted: Option<Served<P, CompactedJournal<L>>>,
 }
@@ -30,7 +32,7 @@ impl<P, L> Model for Ending<P, L> {
 
     ghost coded = { Prim.hlevel (codes, expr.the_row.coded, P.code, L.code) };
 
-    ghost view = { λ ending. record { outcome = ending.outcome; served = ending.served; compacted = ending.compacted } };
+    ghost view = { λ ending. record { outcome = ending.outcome; cause = ending.cause; served = ending.served; compacted = ending.compacted } };
 }
 
 impl<P, L> Ending<P, L> {
@@ -40,6 +42,19 @@ impl<P, L> Ending<P, L> {
     {
         Ending {
             outcome: done,
+            cause: None,
+            served: None,
+            compacted: None,
+        }
+    }
+
+    // The end where the journal failed, for this cause, before it was served.
+    pub(crate) fn of_journal(cause: LogCause) -> Self
+        ensures { result ≡ unstarted cause }
+    {
+        Ending {
+            outcome: Err(Failure::JournalFailed),
+            cause: Some(cause),
             served: None,
             compacted: None,
         }
@@ -51,6 +66,7 @@ impl<P, L> Ending<P, L> {
     {
         Ending {
             outcome: served.outcome(),
+            cause: served.cause(),
             served: Some(served),
             compacted: None,
         }
@@ -62,6 +78,7 @@ impl<P, L> Ending<P, L> {
     {
         Ending {
             outcome: served.outcome(),
+            cause: served.cause(),
             served: None,
             compacted: Some(served),
         }
@@ -79,6 +96,13 @@ impl<P, L> Ending<P, L> {
         ensures { result ≡ self.now.outcome }
     {
         self.outcome
+    }
+
+    // Why the journal failed, if it did once it was opened.
+    pub(crate) fn cause(&self) -> Option<LogCause>
+        ensures { result ≡ self.now.cause }
+    {
+        self.cause
     }
 }
 

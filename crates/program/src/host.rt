@@ -15,7 +15,7 @@ pub struct ListenFailed {
     pub cause: ListenCause,
 }
 
-/// Why the log of a journal can't be opened.
+/// Why the log of a journal can't be opened, or failed as it was served.
 #[derive(Clone, Copy, Debug, Error)]
 pub enum OpenFault {
     /// Another program has it.
@@ -33,6 +33,12 @@ pub enum OpenFault {
     /// Its path is a symbolic link to a file that isn't there, as on a disk that isn't mounted.
     #[error("the log is a link to a file that isn't there")]
     NoTarget,
+    /// Its path led to no file, and then to one: another program makes it.
+    #[error("another program makes the log")]
+    Appeared,
+    /// Its path led to another file, or to none, as it was served.
+    #[error("the log was removed or replaced")]
+    Replaced,
     /// The system gives another reason.
     #[error("the log can't be opened")]
     Failed,

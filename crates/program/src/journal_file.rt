@@ -2,8 +2,9 @@
 
 ghost use Rattle.std.specs.Prelude.{[]};
 
+use crate::causes::uncompacted_line;
 use crate::host::OpenFault;
-use journalfile::{Log, Replaceable};
+use journalfile::{Log, LogCause, NotCompacted, ReplaceFault, Replaceable};
 use std::fs::{self, File, OpenOptions, TryLockError};
 use std::io::{self, ErrorKind, Read, Seek, SeekFrom, Write};
 use std::os::unix::fs::MetadataExt;
@@ -34,8 +35,10 @@ fn lock(file: &File) -> Result<(), OpenFault> {
 }
 
 // Locks a new file, which gets the permissions of another.
-fn lock_like(file: &File, other: &File) -> Result<(), OpenFault> {
-    lock(file)?;
+fn lock_like(file: &File, other: &File) -> Result<(), LogCause> {
+    if file.try_lock().is_err() {
+        return Err(LogCause::Other);
+    }
     file.set_permissions(other.metadata()?.permissions())?;
     Ok(())
 }
@@ -63,19 +66,17 @@ fn sync_folder(rt: &HostRuntime, path: &str) -> io::Result<()> {
     fs::open(rt, folder)?.sync_all()
 }
 
-// A new file beside a path, and its name, which nothing had before.
-fn open_beside(rt: &HostRuntime, path: &str) -> Result<(File, String), OpenFault> {
+// A new file beside a path, and its name, which nothing had before. There is none where each name is taken.
+fn open_beside(rt: &HostRuntime, path: &str) -> io::Result<Option<(File, String)>> {
     for number in 1..=NAMES {
-        let Ok(name) = format!(in rt.alloc(); "{path}.new-{number}") else {
-            return Err(OpenFault::NoMemory);
-        };
+        let name = format!(in rt.alloc(); "{path}.new-{number}")?;
         match open_new(rt, name.as_str()) {
-            Ok(file) => return Ok((file, name)),
+            Ok(file) => return Ok(Some((file, name))),
             Err(error) if error.kind() == ErrorKind::AlreadyExists => {}
-            Err(error) => return Err(OpenFault::from(error)),
+            Err(error) => return Err(error),
         }
     }
-    Err(OpenFault::Failed)
+    Ok(None)
 }
 
 // Locks a new file, and writes and syncs its bytes.
@@ -113,7 +114,9 @@ fn name_file(rt: &HostRuntime, other: &str, path: &str) -> Result<bool, OpenFaul
 // Makes the file of a path with these bytes: under another name first, so that the path has all of them or no file, and nothing that
 // has the path is replaced.
 fn make(rt: &HostRuntime, path: &str, bytes: &[u8]) -> Result<File, OpenFault> {
-    let (mut file, other) = open_beside(rt, path)?;
+    let Some((mut file, other)) = open_beside(rt, path)? else {
+        return Err(OpenFault::Failed);
+    };
     let is_named = match fill(&mut file, bytes) {
         Ok(()) => name_file(rt, other.as_str(), path),
         Err(fault) => Err(fault),
@@ -147,7 +150,8 @@ fn open_or_make(rt: &HostRuntime, path: &str, bytes: &[u8]) -> Result<File, Open
         }
         Err(error) if error.kind() == ErrorKind::NotFound => {
             match fs::symlink_metadata(rt, path) {
-                Ok(_) => Err(OpenFault::NoTarget),
+                Ok(found) if found.is_symlink() => Err(OpenFault::NoTarget),
+                Ok(_) => Err(OpenFault::Appeared),
                 Err(error) if error.kind() == ErrorKind::NotFound => make(rt, path, bytes),
                 Err(error) => Err(OpenFault::from(error)),
             }
@@ -182,24 +186,34 @@ impl JournalFile {
     }
 
     // An error where the path doesn't lead to this file, or where that can't be found out. It takes no descriptor.
-    fn look_at_path(&self) -> io::Result<()> {
+    fn look_at_path(&self) -> Result<(), LogCause> {
         if leads_to(&self.rt, self.path.as_str(), &self.file)? {
             Ok(())
         } else {
-            Err(io::Error::from(ErrorKind::NotFound))
+            Err(LogCause::Replaced)
         }
     }
 
     // Gives the path of this file to another one, which has a path of its own. An error where another file has this one's path, or none.
-    fn give_path(&self, other: &File, path: &str) -> io::Result<()> {
+    fn give_path(&self, other: &File, path: &str) -> Result<(), LogCause> {
         self.look_at_path()?;
         other.sync_all()?;
-        fs::rename(&self.rt, path, self.path.as_str())
+        fs::rename(&self.rt, path, self.path.as_str())?;
+        Ok(())
+    }
+
+    // Why no other file has the path, after a failure. A rename over a network may be done and be reported as failed: only the path
+    // itself says that nothing was replaced.
+    fn fault_of(&self, cause: LogCause) -> ReplaceFault<LogCause> {
+        match self.look_at_path() {
+            Ok(()) => ReplaceFault::NotReplaced(cause),
+            Err(_) => ReplaceFault::Failed(cause),
+        }
     }
 }
 
 impl Log for JournalFile {
-    type Failure = io::Error;
+    type Failure = LogCause;
 
     ghost reliable = { ⊥ };
 
@@ -217,35 +231,35 @@ impl Log for JournalFile {
 
     ghost only_now = { λ reliable. absurd reliable };
 
-    fn read_at(&mut self, offset: usize, room: &mut [u8]) -> Result<usize, io::Error> {
+    fn read_at(&mut self, offset: usize, room: &mut [u8]) -> Result<usize, LogCause> {
         self.file.seek(SeekFrom::Start(offset as u64))?;
-        self.file.read(room)
+        Ok(self.file.read(room)?)
     }
 
     // What is appended to a file that was removed or replaced would be lost with the program.
-    fn append(&mut self, bytes: &[u8]) -> Result<(), io::Error> {
+    fn append(&mut self, bytes: &[u8]) -> Result<(), LogCause> {
         self.look_at_path()?;
-        self.file.write_all(bytes)
+        Ok(self.file.write_all(bytes)?)
     }
 
-    fn cut(&mut self, end: usize) -> Result<(), io::Error> {
-        self.file.set_len(end as u64)
+    fn cut(&mut self, end: usize) -> Result<(), LogCause> {
+        Ok(self.file.set_len(end as u64)?)
     }
 
-    fn sync(&mut self) -> Result<(), io::Error> {
-        self.file.sync_data()
+    fn sync(&mut self) -> Result<(), LogCause> {
+        Ok(self.file.sync_data()?)
     }
 }
 
 impl Replaceable for JournalFile {
     // A file under a name that nothing had, which is locked before it has the path. A symbolic link would be replaced in place of the
     // file that it leads to.
-    fn beside(&mut self) -> Result<Self, io::Error> {
+    fn beside(&mut self) -> Result<Self, LogCause> {
         if fs::symlink_metadata(&self.rt, self.path.as_str())?.is_symlink() {
-            return Err(io::Error::from(ErrorKind::Unsupported));
+            return Err(LogCause::Link);
         }
-        let Ok((file, path)) = open_beside(&self.rt, self.path.as_str()) else {
-            return Err(io::Error::from(ErrorKind::Other));
+        let Some((file, path)) = open_beside(&self.rt, self.path.as_str())? else {
+            return Err(LogCause::NoName);
         };
         match lock_like(&file, &self.file) {
             Ok(()) => Ok(JournalFile {
@@ -253,26 +267,37 @@ impl Replaceable for JournalFile {
                 path,
                 file,
             }),
-            Err(_) => {
+            Err(cause) => {
                 let _ = fs::remove_file(&self.rt, path.as_str());
-                Err(io::Error::from(ErrorKind::Other))
+                Err(cause)
             }
         }
     }
 
     // The bytes and the length of the other file are on the disk before it gets the path, and that it has the path is there before
     // anything is added to it.
-    fn replace(&mut self, successor: Self) -> Result<(), io::Error> {
+    fn replace(&mut self, successor: Self) -> Result<(), ReplaceFault<LogCause>> {
         let JournalFile { path, file, .. } = successor;
-        if let Err(error) = self.give_path(&file, path.as_str()) {
+        if let Err(cause) = self.give_path(&file, path.as_str()) {
             let _ = fs::remove_file(&self.rt, path.as_str());
-            return Err(error);
+            return Err(self.fault_of(cause));
         }
         self.file = file;
-        sync_folder(&self.rt, self.path.as_str())
+        match sync_folder(&self.rt, self.path.as_str()) {
+            Ok(()) => Ok(()),
+            Err(error) => Err(ReplaceFault::Failed(LogCause::from(error))),
+        }
     }
 
     fn discard(self) {
         let _ = fs::remove_file(&self.rt, self.path.as_str());
+    }
+
+    // A line on standard error, written at once.
+    fn report(&self, why: NotCompacted) {
+        let rt = &self.rt;
+        if let Ok(line) = uncompacted_line(rt.alloc(), self.path.as_str(), why.cause) {
+            let _ = eprint!(rt; "{}", line.as_str());
+        }
     }
 }

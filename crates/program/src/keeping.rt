@@ -10,11 +10,12 @@ ghost use Rattle.subcommands.specs.Mapfiles.{TouchesNeither};
 ghost use Rattle.subcommands.specs.Session.{opened};
 ghost use Rattle.program.specs.Journals.{IsOpened, IsUnopened, ReportsCut, ReportsEnd, cut_line, failure_of, fault_message, given_message, is_unopened, journal_fault, journal_view, log_message, map_fingerprint, number_text};
 
+use crate::causes::fault_of_cause;
 use crate::host::{Files, Host, OpenFault};
 use console::{Failure, Writes, report};
 use itoa::Buffer;
 use journal::{HeaderFault, JournalName, UsedFile, fingerprint_of, push_header};
-use journalfile::{Journal, Log, RecoverFault, Recovered, read_name, recover};
+use journalfile::{Journal, Log, LogCause, RecoverFault, Recovered, read_name, recover};
 use mapdefs::Map;
 use mapmachine::Machine;
 use mapparse::Files as MapFiles;
@@ -100,6 +101,8 @@ fn log_message(cause: OpenFault) -> &'static [u8]
         OpenFault::ReadOnly => b"its file system is read-only",
         OpenFault::Full => b"its disk is full",
         OpenFault::NoTarget => b"it is a link to a file that isn't there",
+        OpenFault::Appeared => b"another program makes it",
+        OpenFault::Replaced => b"it was removed or replaced",
         OpenFault::Failed => b"it can't be read or written",
         OpenFault::NoMemory => b"out of memory",
     }
@@ -165,12 +168,17 @@ pub(crate) fn report_cut<E: Sink>(errors: &mut E, path: &str, requested: bool, c
     }
 }
 
-/// Reports that the journal of a service failed, where that is its outcome.
-pub(crate) fn report_end<E: Sink>(errors: &mut E, path: &str, outcome: Result<(), Failure>)
-    ensures { ReportsEnd path.now outcome (⟦<E as Writes>⟧.state errors.old) (⟦<E as Writes>⟧.state errors.new) }
+/// Reports that the journal of a service failed, with the cause, where that is its outcome.
+pub(crate) fn report_end<E: Sink>(
+    errors: &mut E,
+    path: &str,
+    outcome: Result<(), Failure>,
+    cause: Option<LogCause>,
+)
+    ensures { ReportsEnd path.now outcome cause (⟦<E as Writes>⟧.state errors.old) (⟦<E as Writes>⟧.state errors.new) }
 {
     if let Err(Failure::JournalFailed) = outcome {
-        report_journal_fault(errors, path, JournalFault::Log(OpenFault::Failed));
+        report_journal_fault(errors, path, JournalFault::Log(fault_of_cause(cause)));
     }
 }
 

@@ -9,6 +9,7 @@
 #![tactic(auto)]
 
 mod arguments;
+mod causes;
 mod ending;
 mod explaining;
 mod files;

@@ -3,7 +3,7 @@ ghost use Rattle.console.specs.Console.{LeavesOutput, is_input_failed};
 ghost use Rattle.journal.specs.Name.{IsBounded};
 ghost use Rattle.journalfile.specs.Settled.{GarblesNoRecord, IsSettled};
 ghost use Rattle.program.specs.Journals.{IsOpened, IsUnopened, checkpoint_of, journal_view, map_fingerprint};
-ghost use Rattle.program.specs.Performing.{IsServed, ServesJournal, ServesMachine, ServesMap, by_compacted, by_journal, host_view};
+ghost use Rattle.program.specs.Performing.{IsServed, ServesCompacted, ServesJournal, ServesMachine, ServesMap, by_compacted, by_journal, host_view};
 ghost use Rattle.subcommands.specs.Session.{opened};
 ghost use Rattle.network.specs.Announcing.{IsUnserved, is_service_failure};
 
@@ -16,7 +16,7 @@ use crate::keeping::{
 use crate::program::Program;
 use commandline::Service;
 use console::{Console, Failure, Writes};
-use journalfile::{Checkpoint, CompactedJournal, Journal, Keeps, Log};
+use journalfile::{Checkpoint, CompactedJournal, Journal, Keeps, Log, LogFailure};
 use mapdefs::Map;
 use mapmachine::Machine;
 use network::{Network, Port, PortFor, Ports, Runtime, Until};
@@ -36,7 +36,7 @@ pub struct JournaledService<'a> {
     pub explains: bool,
 }
 
-// Whether a cut of the journal is told: what is found is explained, or a log is kept.
+// Whether a cut of the journal is reported, and that it isn't compacted: what is found is explained, or a log is kept.
 fn is_told(explains: bool, service: Service) -> bool
     ensures { result ≡ (explains || service.logs) }
 {
@@ -189,18 +189,39 @@ impl<R: Runtime, H: Host> Program<'_, R, H> {
         }
     }
 
+    // The same, where the journal is compacted first, if it is due.
+    fn serve_compacting<O: Sink>(
+        &self,
+        mut kept: Kept<CompactedJournal<H::Log>>,
+        service: Service,
+        output: &mut O,
+    ) -> Ending<H::Port, H::Log>
+        requires ready { (batches : List (List ℕ)) × ⟦<CompactedJournal<H::Log> as Keeps>⟧.keeps kept.keeper batches }
+        ensures serves { ServesCompacted (host_view ⟦<H as Files>⟧ H.listens H.journal ⟦<H::Port as Port<H::Connection>>⟧
+            ⟦<H::Log as Log>⟧ self.now.host.now) (record { machine = kept.machine; keeper = kept.keeper; service = service }) result
+            (⟦<O as Writes>⟧.state output.old) (⟦<O as Writes>⟧.state output.new) }
+        ensures leaves { LeavesOutput result.outcome (⟦<O as Writes>⟧.state output.old) (⟦<O as Writes>⟧.state output.new) }
+        ensures reads { is_input_failed result.outcome ≡ false }
+    {
+        match kept.keeper.compact_where_due() {
+            Ok(()) => self.serve_compacted(kept, service, output),
+            Err(failure) => Ending::of_journal(failure.cause()),
+        }
+    }
+
     // Serves a machine with its journal, which is compacted where the options say so.
     fn serve_journal<O: Sink>(
         &self,
         kept: Kept<Journal<H::Log>>,
-        service: Service,
+        journaled: JournaledService<'_>,
         output: &mut O,
     ) -> Ending<H::Port, H::Log>
         requires recognised { H.Log.reliable → (name : List ℕ) → GarblesNoRecord H.Log.garbled name }
         requires settled { (own : List (List ℕ)) × (H.Log.reliable → IsSettled H.Log.content H.Log.may_leave kept.keeper own) }
         requires bounded { IsBounded kept.keeper.name.compaction }
         ensures serves { ServesJournal (host_view ⟦<H as Files>⟧ H.listens H.journal ⟦<H::Port as Port<H::Connection>>⟧
-            ⟦<H::Log as Log>⟧ self.now.host.now) (record { machine = kept.machine; keeper = kept.keeper; service = service }) result
+            ⟦<H::Log as Log>⟧ self.now.host.now) (journaled.entry.explains || journaled.entry.service.logs)
+            (record { machine = kept.machine; keeper = kept.keeper; service = journaled.entry.service }) result
             (⟦<O as Writes>⟧.state output.old) (⟦<O as Writes>⟧.state output.new) }
         ensures leaves { LeavesOutput result.outcome (⟦<O as Writes>⟧.state output.old) (⟦<O as Writes>⟧.state output.new) }
         ensures reads { is_input_failed result.outcome ≡ false }
@@ -209,6 +230,7 @@ impl<R: Runtime, H: Host> Program<'_, R, H> {
             machine,
             keeper: journal,
         } = kept;
+        let service = journaled.service;
         if service.checkpoint == 0 {
             let keeper = Some(journal);
             return self.serve_whole(Kept { machine, keeper }, service, output);
@@ -217,8 +239,9 @@ impl<R: Runtime, H: Host> Program<'_, R, H> {
         let keeper = CompactedJournal {
             journal,
             checkpoint,
+            is_reported: is_told(journaled.explains, service),
         };
-        self.serve_compacted(Kept { machine, keeper }, service, output)
+        self.serve_compacting(Kept { machine, keeper }, service, output)
     }
 
     /// Listens on two ports, and serves a map there, as it begins. Its batches end with the program.
@@ -307,8 +330,8 @@ impl<R: Runtime, H: Host> Program<'_, R, H> {
         let tells = is_told(journaled.explains, service);
         report_cut(&mut console.errors, path, tells, cut);
         let kept = Kept { machine, keeper };
-        let ending = self.serve_journal(kept, service, &mut console.output);
-        report_end(&mut console.errors, path, ending.outcome());
+        let ending = self.serve_journal(kept, journaled, &mut console.output);
+        report_end(&mut console.errors, path, ending.outcome(), ending.cause());
         ending
     }
 }

@@ -1,6 +1,6 @@
 -- The bytes that an administrator's client got through a sink in front of its own.
-use Rattle.std.proofs.Common.{◌≡◌, inl, inr, ℕ, ◌-◌, List, Option, Result, Ok, Err, refl}
-use Rattle.std.specs.Prelude.{OnOk, IsErr, IsErrOf, MatchResult, true}
+use Rattle.std.proofs.Common.{◌≡◌, inl, inr, ℕ, ◌-◌, List, Option, None, Result, Ok, Err, refl}
+use Rattle.std.specs.Prelude.{OnOk, IsErr, IsErrOf, MatchResult}
 use Rattle.administration.specs.Keeping.{HasSent, IsCutShort, IsFailed, IsReported}
 use Rattle.administration.specs.Serving.{HasAdministered, HasDoneAll, ReportedCommands}
 use Rattle.administration.specs.declared.keeping.AdministerFault.{AdministerFault}
@@ -8,11 +8,12 @@ use Rattle.administration.specs.declared.keeping.AdministerFault.TheVariants.{Pu
 use Rattle.batches.specs.Batch.{State}
 use Rattle.console.specs.Console.{Outcome}
 use Rattle.console.specs.declared.failure.Failure.TheVariants.{JournalFailed}
+use Rattle.journalfile.specs.declared.cause.LogCause.{LogCause}
 use Rattle.mapshare.specs.Admin.{Batches}
 use Rattle.mapshare.specs.declared.admin.KeepFailed as keep
 use Rattle.streams.specs.Sent.{IsSent, IsCutSomewhere}
 use Rattle.streams.specs.Sides.{Attended, SidesView}
-use Rattle.service.specs.Administering.{Administers, fault_of, has_kept}
+use Rattle.service.specs.Administering.{Administers, cause_of, fault_of}
 
 module _ {A B : Type 0} (within : A → B) (held : B → Option (List ℕ)) (taken : B → ℕ) where
   -- the text that was sent to the outer sink was sent to the inner one
@@ -90,18 +91,18 @@ module _ {R A W : Type 0} (within : A → W) (sides : SidesView R W) (opening : 
   pub administered : (served : Result (Unit {0}) AdministerFault) (old new : Attended R A Batches) (written : ℕ)
       → OnOk served (HasAdministered opening outer old new)
       → (IsErrOf served PutFailed → IsCutShort opening outer old new)
-      → (IsErrOf served KeepFailed → IsFailed opening outer old new)
+      → ((cause : LogCause) → IsErrOf served (KeepFailed cause) → IsFailed opening outer old new)
       → written ≡ outer.taken new.writer - outer.taken old.writer
-      → Administers opening sides (has_kept served) (fault_of served written) (inside old) (inside new)
+      → Administers opening sides (cause_of served) (fault_of served written) (inside old) (inside new)
   administered (Ok done) old new written all stopped ended count = whole-within old new all
   administered (Err PutFailed) old new written ok stopped ended count = (stopped-within old new (stopped refl), count)
-  administered (Err KeepFailed) old new written ok stopped ended count = failed-within old new (ended refl)
+  administered (Err (KeepFailed cause)) old new written ok stopped ended count = failed-within old new (ended cause refl)
 
 -- the accepted batches are kept, unless the keeper failed
-pub kept-of : (served : Result (Unit {0}) AdministerFault) (P : Type 0) → MatchResult served (λ _. P) (λ why. why ≡ PutFailed → P) → has_kept served ≡ true → P
+pub kept-of : (served : Result (Unit {0}) AdministerFault) (P : Type 0) → MatchResult served (λ _. P) (λ why. why ≡ PutFailed → P) → cause_of served ≡ None → P
 kept-of (Ok done) P is e = is
 kept-of (Err PutFailed) P is e = is refl
-kept-of (Err KeepFailed) P is e = absurd (cc e)
+kept-of (Err (KeepFailed cause)) P is e = absurd (cc e)
 
 -- the batches that were accepted are kept, unless the service ended with the failure of their keeper
 pub unless-failed : (kept : Result (Unit {0}) keep.KeepFailed) (outcome : Outcome) (P : Type 0) → (IsErr kept → outcome ≡ Err JournalFailed) → OnOk kept P → (outcome ≡ Err JournalFailed → ⊥) → P

@@ -1,11 +1,12 @@
 -- What a service was (docs/SERVICE.md, "The program").
-use Rattle.std.specs.Prelude.{◌≡◌, ℕ, List}
+use Rattle.std.specs.Prelude.{◌≡◌, ℕ, List, Option}
 use Rattle.batches.specs.Batch.{State}
 use Rattle.commandline.specs.declared.subcommand.Service.{Service}
 use Rattle.console.specs.Console.{Outcome}
+use Rattle.journalfile.specs.declared.cause.LogCause.{LogCause}
 
 -- a service: the machine whose map it served and the keeper of its batches, as they began, the ports of clients and of administration, its options,
--- how it ended, and then the keeper of batches, and all batches that were accepted, published or held, in order
+-- how it ended, and why its keeper failed, if it did; then the keeper of batches, and all batches that were accepted, published or held, in order
 pub record ServedValue (P K : Type 0) : Type 0 where
   pub machine : State
   pub keeper : K
@@ -13,6 +14,7 @@ pub record ServedValue (P K : Type 0) : Type 0 where
   pub administration : P
   pub service : Service
   pub outcome : Outcome
+  pub cause : Option LogCause
   pub last : K
   pub accepted : List (List ℕ)
 

@@ -1,16 +1,16 @@
 //! The connections of administrators: one after the other, each until it ends, and each accepted batch kept.
 
-ghost use Rattle.std.specs.Prelude.{◌≡◌, ℕ, List, IfSome, MatchOption, OnOk, None, true};
+ghost use Rattle.std.specs.Prelude.{◌≡◌, ℕ, List, IfSome, MatchOption, OnOk, None};
 ghost use Rattle.streams.specs.Sides.{sides_view};
 ghost use Rattle.administration.specs.Keeping.{IsKeptSince};
-ghost use Rattle.service.specs.Administering.{Administers, fault_of, has_kept};
+ghost use Rattle.service.specs.Administering.{Administers, cause_of, fault_of};
 ghost use Rattle.network.specs.Opening.{IsServedOne};
 
 use crate::clients::queue_of;
 use accesslog::{LogQueue, LoggedSink};
 use administration::{AdministerFault, Client, administer_kept};
 use httpedge::EdgeFault;
-use journalfile::Keeps;
+use journalfile::{Keeps, LogCause};
 use mapshare::{Admin, KeepFailed, Sharing};
 use network::{Accepting, Acceptor, Administrators, Opens, Plan, Port, PortFor, Runtime, Sides};
 use std::alloc::Global;
@@ -23,8 +23,8 @@ use streams::{Sink, Source};
 struct Attempt<D> {
     // The rest of it.
     closed: D,
-    // The keeper of batches didn't fail.
-    has_kept: bool,
+    // Why the keeper of batches failed, if it did.
+    cause: Option<LogCause>,
 }
 
 // The fault with which a connection is closed: its writer failed. One that was sent `FAILED` has none, so that its client gets that
@@ -33,16 +33,19 @@ fn fault_of(served: Result<(), AdministerFault>, written: u128) -> Option<EdgeFa
     ensures { result ≡ fault_of served written }
 {
     match served {
-        Ok(()) | Err(AdministerFault::KeepFailed) => None,
+        Ok(()) | Err(AdministerFault::KeepFailed(_)) => None,
         Err(AdministerFault::PutFailed) => Some(EdgeFault::Write { written }),
     }
 }
 
-// Whether the keeper of batches didn't fail.
-fn has_kept(served: Result<(), AdministerFault>) -> bool
-    ensures { result ≡ has_kept served }
+// Why the keeper of batches failed, if it did.
+fn cause_of(served: Result<(), AdministerFault>) -> Option<LogCause>
+    ensures { result ≡ cause_of served }
 {
-    !matches!(served, Err(AdministerFault::KeepFailed))
+    match served {
+        Ok(()) | Err(AdministerFault::PutFailed) => None,
+        Err(AdministerFault::KeepFailed(cause)) => Some(cause),
+    }
 }
 
 // A connection of an administrator, its number, and the log of its commands, if there is one.
@@ -64,10 +67,10 @@ fn administer_one<S: Sharing, K: Keeps, R: Runtime, C: Opens>(
     requires ready { (kept : List (List ℕ)) × K.keeps keeper.old kept }
     ensures served { MatchOption result.1 (C.opens numbered.connection None × (result.0 ≡ admin) × (keeper.new ≡ keeper.old))
         (λ attempt. IsServedOne C.opens C.closes
-        (Administers S.opening (sides_view ⟦<C::Reader as Source>⟧ ⟦<C::Writer as Sink>⟧) attempt.has_kept)
+        (Administers S.opening (sides_view ⟦<C::Reader as Source>⟧ ⟦<C::Writer as Sink>⟧) attempt.cause)
         numbered.connection admin result.0 attempt.closed) }
     ensures kept { (kept : List (List ℕ)) → K.keeps keeper.old kept
-        → IfSome result.1 (λ attempt. attempt.has_kept ≡ true → IsKeptSince K.keeps admin kept result.0 keeper.new) }
+        → IfSome result.1 (λ attempt. attempt.cause ≡ None → IsKeptSince K.keeps admin kept result.0 keeper.new) }
 {
     let Numbered {
         connection,
@@ -87,7 +90,7 @@ fn administer_one<S: Sharing, K: Keeps, R: Runtime, C: Opens>(
     let fault = fault_of(served, writer.taken().saturating_sub(before));
     let attempt = Attempt {
         closed: C::close(Sides { reader, writer }, fault),
-        has_kept: has_kept(served),
+        cause: cause_of(served),
     };
     (admin, Some(attempt))
 }
@@ -172,12 +175,13 @@ where
         };
         let (after, attempt) = administer_one(rt, admin, keeper, numbered);
         admin = after;
-        let Some(Attempt { closed, has_kept }) = attempt else {
+        let Some(Attempt { closed, cause }) = attempt else {
             continue;
         };
         drop(closed);
-        if !has_kept {
-            return (admin, Err(KeepFailed));
+        match cause {
+            None => {}
+            Some(cause) => return (admin, Err(KeepFailed { cause })),
         }
     }
     unreachable!()

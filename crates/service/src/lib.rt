@@ -2,7 +2,7 @@
 //!
 //! Proved: `serve_by_threads` writes the addresses of the ports once. It ends as writing them did, or because a port, a thread or memory is
 //! missing (`announced`). Its result names the map that it served, and the ports (`served`). `administer_all` keeps all batches that it
-//! accepts, unless the keeper fails (`kept`), and then the service ends with that failure (`outcome_of`). The contracts of what its threads
+//! accepts, unless the keeper fails (`kept`), and then the service ends with that failure (`end_of`). The contracts of what its threads
 //! do are those of the calls that they make: of clients `ConnectionTable::serve_next` of `turns`, and of an administrator's connection
 //! `administer_kept` of `administration`.
 //!

@@ -1,16 +1,36 @@
-ghost use Rattle.std.specs.Prelude.{◌≡◌, Ok, Err};
+ghost use Rattle.std.specs.Prelude.{◌≡◌, None, Ok, Err};
 ghost use Rattle.console.specs.declared.failure.Failure.TheVariants.{NoMemory};
 
 use commandline::Service;
 use console::Failure;
 use history::Shown;
+use journalfile::LogCause;
 use mapmachine::Machine;
 use network::Ports;
 use std::marker::Model;
 use std::snapshot::Snapshot;
 
-/// A service: the map of a machine that it served, its two ports, its options, the keeper of its batches as it began, how it ended, and
-/// then the keeper, and all batches that were accepted. Only `serve_by_threads` makes one, so a caller who has one knows which map, which
+/// How a service ended, and why its keeper failed, if it did.
+#[derive(Clone, Copy)]
+pub(crate) struct ServiceEnd {
+    pub outcome: Result<(), Failure>,
+    pub cause: Option<LogCause>,
+}
+
+impl ServiceEnd {
+    // An end at which the keeper didn't fail.
+    pub(crate) fn after(outcome: Result<(), Failure>) -> Self
+        ensures { result ≡ record { outcome = outcome; cause = None } }
+    {
+        ServiceEnd {
+            outcome,
+            cause: None,
+        }
+    }
+}
+
+/// A service: the map of a machine that it served, its two ports, its options, the keeper of its batches as it began, how it ended, why the
+/// keeper failed, if it did, and then the keeper, and all batches that were accepted. Only `serve_by_threads` makes one, so a caller who has one knows which map, which
 /// ports and which keeper that call was given. That it started a thread for each port is tested.
 #[derive(Drop)]
 pub struct Served<P, K> {
@@ -20,6 +40,7 @@ pub struct Served<P, K> {
     administration: Snapshot<P>,
     service: Service,
     outcome: Result<(), Failure>,
+    cause: Option<LogCause>,
     last: Snapshot<K>,
     accepted: Shown,
 }
@@ -40,6 +61,7 @@ impl<P, K> Model for Served<P, K> {
       administration = s.administration.value;
       service = s.service;
       outcome = s.outcome;
+      cause = s.cause;
       last = s.last.value;
       accepted = s.accepted;
     } };
@@ -60,6 +82,7 @@ impl<P, K> Served<P, K> {
           administration = ports.now.administration.port;
           service = ports.now.service;
           outcome = Ok tt;
+          cause = None;
           last = keeper.now;
           accepted = accepted;
         } }
@@ -71,6 +94,7 @@ impl<P, K> Served<P, K> {
             administration: Snapshot::of(ports.administration.get()),
             service: ports.service,
             outcome: Ok(()),
+            cause: None,
             last: Snapshot::of(keeper),
             accepted,
         }
@@ -87,8 +111,8 @@ impl<P, K> Served<P, K> {
     }
 
     // The same, with how it ended, the keeper of batches then, and all batches that were accepted.
-    pub(crate) fn ended(self, outcome: Result<(), Failure>, last: &K, accepted: Shown) -> Self
-        ensures { result ≡ record self { outcome = outcome; last = last.now; accepted = accepted } }
+    pub(crate) fn ended(self, end: ServiceEnd, last: &K, accepted: Shown) -> Self
+        ensures { result ≡ record self { outcome = end.outcome; cause = end.cause; last = last.now; accepted = accepted } }
     {
         let Self {
             machine,
@@ -104,7 +128,8 @@ impl<P, K> Served<P, K> {
             clients,
             administration,
             service,
-            outcome,
+            outcome: end.outcome,
+            cause: end.cause,
             last: Snapshot::of(last),
             accepted,
         }
@@ -115,5 +140,12 @@ impl<P, K> Served<P, K> {
         ensures { result ≡ self.now.outcome }
     {
         self.outcome
+    }
+
+    /// Why the keeper of batches failed, if it did.
+    pub fn cause(&self) -> Option<LogCause>
+        ensures { result ≡ self.now.cause }
+    {
+        self.cause
     }
 }

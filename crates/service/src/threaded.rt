@@ -1,6 +1,6 @@
 //! A service by threads: clients in other threads, administrators in the calling one.
 
-ghost use Rattle.std.specs.Prelude.{◌≡◌, ◌++◌, ℕ, List, IsErr, IsSome, Ok, Err};
+ghost use Rattle.std.specs.Prelude.{◌≡◌, ◌++◌, ℕ, List, IsErr, IsSome, MatchResult, None, Some, Ok, Err};
 ghost use Rattle.batches.specs.Batch.{accepted};
 ghost use Rattle.sharing.specs.Sharing.{after};
 ghost use Rattle.administration.specs.Keeping.{IsKeptSince};
@@ -8,7 +8,7 @@ ghost use Rattle.network.specs.Announcing.{HasAnnounced, GoesOnAfter};
 ghost use Rattle.service.specs.Serving.{IsServiceOf};
 
 use crate::administering::administer_all;
-use crate::served::Served;
+use crate::served::{Served, ServiceEnd};
 use crate::starting::{Started, start_sides};
 use console::{Failure, Writes};
 use history::Blank;
@@ -21,24 +21,24 @@ use std::sync::atomic::Ordering;
 use streams::Sink;
 
 // How a service ended whose threads have ended: the keeper of batches failed, or the input with whose end it ends, or as the thread of clients did.
-fn outcome_of(
-    kept: Result<(), KeepFailed>,
-    has_failed: bool,
-    served: Result<(), Failure>,
-) -> Result<(), Failure>
-    ensures ends { GoesOnAfter (Ok tt) result }
-    ensures kept { IsErr kept → result ≡ Err Failure.JournalFailed }
-    ensures journal { result ≡ Err Failure.JournalFailed → IsErr kept }
+fn end_of(kept: Result<(), KeepFailed>, has_failed: bool, served: Result<(), Failure>) -> ServiceEnd
+    ensures ends { GoesOnAfter (Ok tt) result.outcome }
+    ensures kept { IsErr kept → result.outcome ≡ Err Failure.JournalFailed }
+    ensures journal { result.outcome ≡ Err Failure.JournalFailed → IsErr kept }
+    ensures cause { MatchResult kept (λ _. result.cause ≡ None) (λ failed. result.cause ≡ Some failed.cause) }
 {
-    if kept.is_err() {
-        return Err(Failure::JournalFailed);
+    if let Err(KeepFailed { cause }) = kept {
+        return ServiceEnd {
+            outcome: Err(Failure::JournalFailed),
+            cause: Some(cause),
+        };
     }
-    match served {
+    ServiceEnd::after(match served {
         Ok(()) if has_failed => Err(Failure::WatchFailed),
         Ok(()) => Ok(()),
         Err(Failure::NoMemory) => Err(Failure::NoMemory),
         Err(_) => Err(Failure::SocketFailed),
-    }
+    })
 }
 
 // Serves clients in other threads and administrators in this one.
@@ -47,15 +47,15 @@ fn serve_started<S, R, N, K>(
     admin: Admin<S>,
     keeper: &mut K,
     started: Started<N::Port, R, N::Waker>,
-) -> (Admin<S>, Result<(), Failure>)
+) -> (Admin<S>, ServiceEnd)
 where
     S: Sharing + Send + Sync + 'static,
     R: Runtime,
     N: Network,
     K: Keeps,
     requires ready { (kept : List (List ℕ)) × K.keeps keeper.old kept }
-    ensures ends { GoesOnAfter (Ok tt) result.1 }
-    ensures kept { (kept : List (List ℕ)) → K.keeps keeper.old kept → (result.1 ≡ Err Failure.JournalFailed → ⊥)
+    ensures ends { GoesOnAfter (Ok tt) result.1.outcome }
+    ensures kept { (kept : List (List ℕ)) → K.keeps keeper.old kept → (result.1.outcome ≡ Err Failure.JournalFailed → ⊥)
         → IsKeptSince K.keeps admin kept result.0 keeper.new }
 {
     let Started {
@@ -74,8 +74,8 @@ where
         stop.give();
     }
     let served = clients.join(rt);
-    let outcome = outcome_of(kept, has_failed.load(Ordering::SeqCst), served);
-    (admin, outcome)
+    let end = end_of(kept, has_failed.load(Ordering::SeqCst), served);
+    (admin, end)
 }
 
 // A map that is shared, the ports at which it is served, and the logs of that.
@@ -137,7 +137,7 @@ fn serve_both<S, R, N, K, O>(
     opened: Opened<S, R, N::Port, N::Waker, N::Poller, N::Input>,
     keeper: &mut K,
     output: &mut O,
-) -> (Admin<S>, Result<(), Failure>)
+) -> (Admin<S>, ServiceEnd)
 where
     S: Sharing + Send + Sync + 'static,
     R: Runtime,
@@ -145,9 +145,9 @@ where
     K: Keeps,
     O: Sink,
     requires ready { (kept : List (List ℕ)) × K.keeps keeper.old kept }
-    ensures announced { HasAnnounced (N.Port.address opened.ports.clients.port) (N.Port.address opened.ports.administration.port) result.1
+    ensures announced { HasAnnounced (N.Port.address opened.ports.clients.port) (N.Port.address opened.ports.administration.port) result.1.outcome
         (⟦<O as Writes>⟧.state output.old) (⟦<O as Writes>⟧.state output.new) }
-    ensures kept { (kept : List (List ℕ)) → K.keeps keeper.old kept → (result.1 ≡ Err Failure.JournalFailed → ⊥)
+    ensures kept { (kept : List (List ℕ)) → K.keeps keeper.old kept → (result.1.outcome ≡ Err Failure.JournalFailed → ⊥)
         → IsKeptSince K.keeps opened.admin kept result.0 keeper.new }
 {
     let Opened {
@@ -158,17 +158,17 @@ where
     } = opened;
     let addresses = match Addresses::of(rt.alloc(), &ports) {
         Ok(addresses) => addresses,
-        Err(failure) => return (admin, Err(failure)),
+        Err(failure) => return (admin, ServiceEnd::after(Err(failure))),
     };
     let started = match start_sides::<S, R, N>(rt, readers, ports, logs) {
         Ok(started) => started,
-        Err(failure) => return (admin, Err(failure)),
+        Err(failure) => return (admin, ServiceEnd::after(Err(failure))),
     };
     match addresses.write(output) {
         Ok(()) => serve_started::<S, R, N, K>(rt, admin, keeper, started),
         Err(failure) => {
             started.end(rt);
-            (admin, Err(failure))
+            (admin, ServiceEnd::after(Err(failure)))
         }
     }
 }
@@ -179,7 +179,7 @@ fn serve_logged<S, R, N, K, O>(
     opened: Opened<S, R, N::Port, N::Waker, N::Poller, N::Input>,
     keeper: &mut K,
     output: &mut O,
-) -> (Admin<S>, Result<(), Failure>)
+) -> (Admin<S>, ServiceEnd)
 where
     S: Sharing + Send + Sync + 'static,
     R: Runtime,
@@ -187,9 +187,9 @@ where
     K: Keeps,
     O: Sink,
     requires ready { (kept : List (List ℕ)) × K.keeps keeper.old kept }
-    ensures announced { HasAnnounced (N.Port.address opened.ports.clients.port) (N.Port.address opened.ports.administration.port) result.1
+    ensures announced { HasAnnounced (N.Port.address opened.ports.clients.port) (N.Port.address opened.ports.administration.port) result.1.outcome
         (⟦<O as Writes>⟧.state output.old) (⟦<O as Writes>⟧.state output.new) }
-    ensures kept { (kept : List (List ℕ)) → K.keeps keeper.old kept → (result.1 ≡ Err Failure.JournalFailed → ⊥)
+    ensures kept { (kept : List (List ℕ)) → K.keeps keeper.old kept → (result.1.outcome ≡ Err Failure.JournalFailed → ⊥)
         → IsKeptSince K.keeps opened.admin kept result.0 keeper.new }
 {
     if !opened.ports.service.logs {
@@ -197,7 +197,7 @@ where
     }
     let (log, logs) = match start_log(rt) {
         Ok(started) => started,
-        Err(failure) => return (opened.into_admin(), Err(failure)),
+        Err(failure) => return (opened.into_admin(), ServiceEnd::after(Err(failure))),
     };
     let served = serve_both::<S, R, N, K, O>(rt, opened.logged(logs), keeper, output);
     log.end(rt);
@@ -254,10 +254,10 @@ where
             // Its features would stay in memory when a batch has emptied their layer.
             drop(machine);
             let opened = Opened::unlogged(admin, readers, ports);
-            let (admin, outcome) = serve_logged::<S, R, N, K, O>(rt, opened, &mut keeper, output);
+            let (admin, end) = serve_logged::<S, R, N, K, O>(rt, opened, &mut keeper, output);
             let accepted = admin.all();
             admin.close(rt);
-            served.ended(outcome, &keeper, accepted)
+            served.ended(end, &keeper, accepted)
         }
         // A service has 1 to 32 workers.
         Err(ShareFault::Count) | Err(ShareFault::NoMemory) => { served.unshared() }

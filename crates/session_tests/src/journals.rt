@@ -24,6 +24,10 @@ serve a.map --port 81 --admin-port 82 --connections 1 --journal kept.journal|c r
 serve a.map --port 81 --admin-port 82 --connections 1|c b|0 done 1 0 0 0|listening a port another port~|
 # a journal that fails ends the wait for a client, and the program
 serve a.map --port 81 --admin-port 82 --journal stuck.journal|w b|3 JournalFailed 0 1 1 0|listening a port another port~|fault journal stuck.journal: it can't be read or written~
+serve a.map --port 81 --admin-port 82 --journal filled.journal|w b|3 JournalFailed 0 1 1 0|listening a port another port~|fault journal filled.journal: its disk is full~
+serve a.map --port 81 --admin-port 82 --journal moved.journal|w b|3 JournalFailed 0 1 1 0|listening a port another port~|fault journal moved.journal: it was removed or replaced~
+serve a.map --port 81 --admin-port 82 --journal forbidden.journal|w b|3 JournalFailed 0 1 1 0|listening a port another port~|fault journal forbidden.journal: the program may not read and write it~
+serve a.map --port 81 --admin-port 82 --journal remounted.journal|w b|3 JournalFailed 0 1 1 0|listening a port another port~|fault journal remounted.journal: its file system is read-only~
 serve --explain a.map --port 81 --admin-port 82 --connections 1 --journal stuck.journal|c b|3 JournalFailed 0 1 1 0|listening a port another port~|a.map: warning: the service has no wms_onlineresource, and http://localhost/wms? has no port~fault journal stuck.journal: it can't be read or written~
 # none of these is listened with
 serve a.map --port 81 --admin-port 82 --journal none.journal||1 JournalFault 0 0 0 0||fault journal none.journal: it is no journal~
@@ -40,6 +44,7 @@ serve a.map --port 81 --admin-port 82 --journal denied.journal||3 JournalFailed 
 serve a.map --port 81 --admin-port 82 --journal cd.journal||3 JournalFailed 0 0 0 0||fault journal cd.journal: its file system is read-only~
 serve a.map --port 81 --admin-port 82 --journal full.journal||3 JournalFailed 0 0 0 0||fault journal full.journal: its disk is full~
 serve a.map --port 81 --admin-port 82 --journal link.journal||3 JournalFailed 0 0 0 0||fault journal link.journal: it is a link to a file that isn't there~
+serve a.map --port 81 --admin-port 82 --journal made.journal||3 JournalFailed 0 0 0 0||fault journal made.journal: another program makes it~
 serve a.map --port 81 --admin-port 82 --journal small.journal||4 NoMemory 0 0 0 0||fault journal small.journal: out of memory~
 serve c.map --port 81 --admin-port 82 --journal none.journal||1 FileFailed 0 0 0 0||fault file c.map~
 serve a.map --port 80 --journal kept.journal||3 ListenFailed { port: 80, cause: NotAllowed } 0 0 0 0||";
@@ -72,5 +77,5 @@ fn is_ended<R: Runtime>(rt: &R, system: &HostRuntime, line: &str) -> Result<bool
 
 #[test]
 fn batches_are_kept_in_the_journal_that_is_named(rt: HostRuntime) -> Result<(), TableFault> {
-    check_all(rt.alloc(), JOURNALS, 29, |_, line| is_ended(&rt, &rt, line))
+    check_all(rt.alloc(), JOURNALS, 34, |_, line| is_ended(&rt, &rt, line))
 }

@@ -3,7 +3,7 @@
 ghost use Rattle.std.specs.Prelude.{[]};
 
 use crate::shelf::Counts;
-use journalfile::{Log, Replaceable};
+use journalfile::{Log, LogCause, NotCompacted, ReplaceFault, Replaceable};
 use program::OpenFault;
 use std::alloc::Global;
 use std::io::Read;
@@ -15,16 +15,13 @@ use std::sync::atomic::Ordering;
 pub struct ShelfLog {
     alloc: Global,
     held: Vec<u8>,
-    takes_more: bool,
+    // Why it takes no more, if it doesn't.
+    stuck: Option<LogCause>,
     counts: Arc<Counts, Global>,
 }
 
-// The call of a log failed.
-#[derive(Drop)]
-pub struct LogFailed;
-
 impl Log for ShelfLog {
-    type Failure = LogFailed;
+    type Failure = LogCause;
 
     ghost reliable = { ⊥ };
 
@@ -42,15 +39,18 @@ impl Log for ShelfLog {
 
     ghost only_now = { λ reliable. absurd reliable };
 
-    fn read_at(&mut self, offset: usize, room: &mut [u8]) -> Result<usize, LogFailed> {
+    fn read_at(&mut self, offset: usize, room: &mut [u8]) -> Result<usize, LogCause> {
         let mut left = self.held.get(offset..).unwrap_or(&[]);
-        left.read(room).map_err(|_| LogFailed)
+        left.read(room).map_err(|_| LogCause::Other)
     }
 
     // The appended bytes are counted.
-    fn append(&mut self, bytes: &[u8]) -> Result<(), LogFailed> {
-        if !self.takes_more || self.held.extend_from_slice(bytes).is_err() {
-            return Err(LogFailed);
+    fn append(&mut self, bytes: &[u8]) -> Result<(), LogCause> {
+        if let Some(cause) = self.stuck {
+            return Err(cause);
+        }
+        if self.held.extend_from_slice(bytes).is_err() {
+            return Err(LogCause::NoMemory);
         }
         self.counts
             .kept
@@ -58,35 +58,37 @@ impl Log for ShelfLog {
         Ok(())
     }
 
-    fn cut(&mut self, end: usize) -> Result<(), LogFailed> {
+    fn cut(&mut self, end: usize) -> Result<(), LogCause> {
         self.held.truncate(end);
         Ok(())
     }
 
-    fn sync(&mut self) -> Result<(), LogFailed> {
+    fn sync(&mut self) -> Result<(), LogCause> {
         Ok(())
     }
 }
 
 impl Replaceable for ShelfLog {
-    fn beside(&mut self) -> Result<Self, LogFailed> {
+    fn beside(&mut self) -> Result<Self, LogCause> {
         match Arc::try_clone(&self.counts) {
             Ok(counts) => Ok(ShelfLog {
                 alloc: self.alloc,
                 held: Vec::new(self.alloc),
-                takes_more: self.takes_more,
+                stuck: self.stuck,
                 counts,
             }),
-            Err(_) => Err(LogFailed),
+            Err(_) => Err(LogCause::NoMemory),
         }
     }
 
-    fn replace(&mut self, successor: Self) -> Result<(), LogFailed> {
+    fn replace(&mut self, successor: Self) -> Result<(), ReplaceFault<LogCause>> {
         self.held = successor.held;
         Ok(())
     }
 
     fn discard(self) {}
+
+    fn report(&self, _why: NotCompacted) {}
 }
 
 // The journal of `MAP END` and an LF that has no record, in hexadecimal digits: worked out from the rules of the format by another program,
@@ -163,7 +165,19 @@ fn add_journal(held: &mut Vec<u8>, alloc: Global, path: &str) -> Result<(), Open
     }
 }
 
-// The log of a path: that of `fresh.journal` is made with these bytes, and so is that of `stuck.journal`, which takes no more.
+// Why the log of a path takes no more, if it doesn't.
+fn stuck_cause(path: &str) -> Option<LogCause> {
+    match path {
+        "stuck.journal" => Some(LogCause::Other),
+        "filled.journal" => Some(LogCause::Full),
+        "moved.journal" => Some(LogCause::Replaced),
+        "forbidden.journal" => Some(LogCause::NotAllowed),
+        "remounted.journal" => Some(LogCause::ReadOnly),
+        _ => None,
+    }
+}
+
+// The log of a path: that of `fresh.journal` is made with these bytes, and so are those of the paths whose logs take no more.
 pub fn log_of(
     alloc: Global,
     counts: &Arc<Counts, Global>,
@@ -177,8 +191,14 @@ pub fn log_of(
         "cd.journal" => return Err(OpenFault::ReadOnly),
         "full.journal" => return Err(OpenFault::Full),
         "link.journal" => return Err(OpenFault::NoTarget),
+        "made.journal" => return Err(OpenFault::Appeared),
         "small.journal" => return Err(OpenFault::NoMemory),
-        "fresh.journal" | "stuck.journal" => {
+        "fresh.journal"
+        | "stuck.journal"
+        | "filled.journal"
+        | "moved.journal"
+        | "forbidden.journal"
+        | "remounted.journal" => {
             if held.extend_from_slice(bytes).is_err() {
                 return Err(OpenFault::NoMemory);
             }
@@ -189,7 +209,7 @@ pub fn log_of(
         Ok(counts) => Ok(ShelfLog {
             alloc,
             held,
-            takes_more: path != "stuck.journal",
+            stuck: stuck_cause(path),
             counts,
         }),
         Err(_) => Err(OpenFault::NoMemory),

@@ -4,7 +4,7 @@ use crate::maps::{machine, shown};
 use crate::memory::{Coming, Going};
 use administration::{AdministerFault, Client, administer_kept};
 use history::Blank;
-use journalfile::{KeepFault, Keeps};
+use journalfile::{KeepFault, Keeps, LogCause};
 use mapmachine::Machine;
 use mapshare::{Sharing, open};
 use std::alloc::{AllocError, Global};
@@ -34,7 +34,7 @@ impl Keeps for Counted {
     fn keep(&mut self, batches: &[Vec<u8>]) -> Result<(), KeepFault> {
         self.calls = self.calls.saturating_add(1);
         if self.calls == self.failing {
-            return Err(KeepFault::Failed);
+            return Err(KeepFault::Failed(LogCause::Other));
         }
         self.kept = self.kept.saturating_add(batches.len());
         Ok(())
@@ -58,7 +58,7 @@ fn end_of(
     let fault = match served {
         Ok(()) => "",
         Err(AdministerFault::PutFailed) => " cut",
-        Err(AdministerFault::KeepFailed) => " failed",
+        Err(AdministerFault::KeepFailed(_)) => " failed",
     };
     let Counted { kept, calls, .. } = pipe.keeper;
     let reader = pipe.client.reader.inner();

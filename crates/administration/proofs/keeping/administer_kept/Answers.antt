@@ -1,6 +1,7 @@
 use Rattle.std.proofs.Common.{◌≡◌, ◌∙◌, ◌≤◌, ◌+◌, ◌-◌, ◌++◌, List, ℕ, Vec, Global, length, arith, ap, sym, subst, refl}
 use Rattle.std.proofs.lemmas.List.{length-map}
 use Rattle.std.specs.Prelude.{Err}
+use Rattle.std.specs.Result.{is_err}
 use Rattle.journal.specs.Texts.{texts_of}
 use Rattle.administration.specs.Keeping.{IsReported, failed_lines}
 use Rattle.administration.specs.Reading.{HasNext}
@@ -27,12 +28,12 @@ report-requires g c =
     omega (arith, results-within done.result.2 _ _ _ _ _ done.ensures.done done.ensures.failed, length-map c.as_slice.result.now (λ text. text.items), ap length c.as_slice.ensures.value, c.len.ensures)
 
 pub returns-in-Err-clause-failed : goal.returns-in-Err-clause-failed
-returns-in-Err-clause-failed g c same =
+returns-in-Err-clause-failed g c cause same =
     let read = c.read_group-batches.ensures.read in
     let texts = texts_of c.read_group-batches.result.batches.items in
     let results = c.accept_all-after.result.1 in
-    let (broken, reported) = c.in-Err.ensures.failed same in
-    let (first, failed, whole, submitted, fails) = known-err c.accept_all-after.result.2 _ broken c.accept_all-after.ensures.failed in
+    let (broken, reported) = c.in-Err.ensures.failed cause same in
+    let (first, failed, whole, submitted, fails) = known-err c.accept_all-after.result.2 _ (ap is_err broken) c.accept_all-after.ensures.failed in
     let all : texts ≡ first ++ failed = ap texts_of (sym c.as_slice.ensures.value) ∙ whole in
     let counted : length results + length failed ≡ length texts = failed-counted _ _ first failed results _ all submitted in
     let (more, came) = next-read _ _ _ _ read.next in

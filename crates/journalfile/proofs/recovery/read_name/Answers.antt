@@ -1,5 +1,4 @@
 use Rattle.std.proofs.Common.{◌≡◌, length, drop, ◌∙◌, sym, ap, subst, rules}
-use Rattle.journal.specs.declared.name.JournalName.{JournalName}
 use Rattle.journalfile.specs.Recovery.{IsNameFault}
 use Rattle.journalfile.proofs.Headers.{begins_with, same_name, transient_name}
 use Rattle.journalfile.proofs.recovery.read_name.Goals as goal

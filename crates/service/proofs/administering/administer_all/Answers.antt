@@ -1,4 +1,4 @@
-use Rattle.std.proofs.Common.{◌≡◌, true, refl, sym, ap, subst, List, ℕ}
+use Rattle.std.proofs.Common.{◌≡◌, None, refl, sym, ap, subst, List, ℕ}
 use Rattle.administration.specs.Keeping.{IsKeptSince}
 use Rattle.administration.proofs.KeptBatches.{more_kept, same_kept}
 use Rattle.administration.proofs.Steps.{known-none}
@@ -27,9 +27,9 @@ pub loop-preserved : goal.loop-preserved
 loop-preserved g c =
     let keeps = g.K.Keeps.keeps in
     let after = c.administer_one-after in
-    let has : c.in-Some-attempt.field-0.has_kept ≡ true = cc (c.in-Some-attempt.has_kept-is, c.if-not-has_kept.false) in
+    let has : c.in-Some-attempt.field-0.cause ≡ None = c.in-None-cause.is in
     let step = λ (kept : List (List ℕ)) (is : keeps c.loop.keeper kept).
-    let all : c.in-Some-attempt.field-0.has_kept ≡ true → IsKeptSince keeps c.loop.admin kept after.result.0 after.new.keeper = rw c.in-Some-attempt.is at (after.ensures.kept kept is) in all has in
+    let all : c.in-Some-attempt.field-0.cause ≡ None → IsKeptSince keeps c.loop.admin kept after.result.0 after.new.keeper = rw c.in-Some-attempt.is at (after.ensures.kept kept is) in all has in
     record {
       ready = (_, (step c.loop.invariant.ready.0 c.loop.invariant.ready.1).2);
       keeps = λ kept was. more_kept keeps c.args.admin c.loop.admin after.result.0 kept c.loop.keeper after.new.keeper (c.loop.invariant.keeps kept was) step;

@@ -16,7 +16,7 @@ returns-clause-served g c =
       fault = c.fault_of-fault.result;
       rest = done.new.client.reader;
       got = c.into_inner-writer.result;
-      served = rw (c.has_kept.ensures, c.fault_of-fault.ensures, c.into_inner-writer.ensures, sym c.new-writer.ensures)
+      served = rw (c.cause_of.ensures, c.fault_of-fault.ensures, c.into_inner-writer.ensures, sym c.new-writer.ensures)
           (administered (λ s. s.inner) (sides_view g.C.Reader.Source g.C.Writer.Sink) g.S.Sharing.opening done.result.1
           (record { reader = c.in-Some.sides.reader; writer = c.new-writer.result; asked = c.args.admin })
           (record { reader = done.new.client.reader; writer = done.new.client.writer; asked = done.result.0 })
@@ -26,4 +26,4 @@ returns-clause-served g c =
 
 pub returns-clause-kept : goal.returns-clause-kept
 returns-clause-kept g c kept was e =
-    kept-of c.administer_kept-admin.result.1 _ (c.administer_kept-admin.ensures.kept kept was) (sym c.has_kept.ensures ∙ e)
+    kept-of c.administer_kept-admin.result.1 _ (c.administer_kept-admin.ensures.kept kept was) (sym c.cause_of.ensures ∙ e)

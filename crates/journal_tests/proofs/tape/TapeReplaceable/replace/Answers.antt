@@ -7,5 +7,5 @@ returns-clause-crash c reliable file left = inr (c.requires.synced reliable file
 
 pub returns-clause-time : goal.returns-clause-time
 returns-clause-time c reliable =
-    let noted = c.in_ok-note.ensures.ok in
+    let noted = c.in-Ok.ensures.ok in
     elapses c.args.self.now.past.items c.note.new.past.items noted.0 c.args.self.now.bytes.items c.args.self.now.synced c.args.successor.bytes.items c.args.successor.synced noted.1 noted.2 noted.3

@@ -10,11 +10,11 @@ serve_whole-requires-clause-ready g c κs lives = (
   λ reliable. (c.requires.recognised reliable (name_bytes c.args.kept.keeper.name), c.requires.settled.1 reliable),
 )
 
-pub serve_compacted-requires-clause-ready : goal.serve_compacted-requires-clause-ready
-serve_compacted-requires-clause-ready g c κs lives = (
+pub serve_compacting-requires-clause-ready : goal.serve_compacting-requires-clause-ready
+serve_compacting-requires-clause-ready g c κs lives = (
   empties (skipped_of c.args.kept.keeper.name.compaction) ++ c.requires.settled.0,
   λ reliable. (c.requires.recognised reliable, settled-has _ _ c.args.kept.keeper c.requires.settled.0 c.requires.bounded (c.requires.settled.1 reliable)),
 )
 
 pub returns-clause-serves : goal.returns-clause-serves
-returns-clause-serves g c = of-some c.args.service.checkpoint _ _ c.if-service-eq0.false (rw c.checkpoint_of-checkpoint.ensures at c.serve_compacted.ensures.serves)
+returns-clause-serves g c = of-some c.args.journaled.service.checkpoint _ _ c.if-service-eq0.false (rw (c.checkpoint_of-checkpoint.ensures, c.is_told.ensures) at c.serve_compacting.ensures.serves)

@@ -11,5 +11,5 @@ returns-clause-serves g c =
       serves = c.serve_journal-ending.ensures.serves;
       between = _;
       told = rw c.is_told-tells.ensures at c.report_cut.ensures;
-      reported = rw c.outcome.ensures at c.report_end.ensures;
+      reported = rw (c.outcome.ensures, c.cause.ensures) at c.report_end.ensures;
     })

@@ -1,0 +1,66 @@
+//! Why a log isn't read, written or replaced.
+
+ghost use Rattle.std.specs.Prelude.{◌≡◌};
+
+use std::io::{self, ErrorKind};
+
+/// Why a call of a log failed, or a journal isn't compacted.
+#[derive(Clone, Copy, Debug, PartialEq, Eq)]
+pub enum LogCause {
+    /// The system doesn't allow it.
+    NotAllowed,
+    /// The file system can only be read.
+    ReadOnly,
+    /// There is no room on the disk.
+    Full,
+    /// The path leads to another file, or to none.
+    Replaced,
+    /// The path is a symbolic link, which a new file would replace in place of the file that it leads to.
+    Link,
+    /// Each name is taken that a new file may have.
+    NoName,
+    /// The system uses the file, as one that is mounted by itself.
+    InUse,
+    /// Memory was refused.
+    NoMemory,
+    /// A record that was written isn't read.
+    Unread,
+    /// Another cause.
+    Other,
+}
+
+impl From<io::Error> for LogCause {
+    fn from(error: io::Error) -> Self {
+        match error.kind() {
+            ErrorKind::PermissionDenied => LogCause::NotAllowed,
+            ErrorKind::ReadOnlyFilesystem => LogCause::ReadOnly,
+            ErrorKind::StorageFull | ErrorKind::QuotaExceeded => LogCause::Full,
+            ErrorKind::NotFound | ErrorKind::NotADirectory | ErrorKind::FilesystemLoop => {
+                LogCause::Replaced
+            }
+            ErrorKind::ResourceBusy => LogCause::InUse,
+            ErrorKind::OutOfMemory => LogCause::NoMemory,
+            _ => LogCause::Other,
+        }
+    }
+}
+
+/// A failure of a log.
+pub trait LogFailure {
+    ghost use Rattle.journalfile.specs.declared.cause.LogCause.{LogCause};
+
+    /// Its cause.
+    ghost cause: { Self → LogCause };
+
+    /// Its cause.
+    fn cause(&self) -> LogCause
+        ensures { result ≡ cause self.now };
+}
+
+impl LogFailure for LogCause {
+    ghost cause = { λ c. c };
+
+    fn cause(&self) -> LogCause {
+        *self
+    }
+}
