@@ -175,7 +175,7 @@ REASONS = {
     "LEGEND": "GetLegendGraphic isn't answered; deploy/legend writes a legend for the viewer",
     "CLASS NAME": "deploy/legend has it as the title of the class",
     "CLASS TITLE": "deploy/legend has it as the title of the class",
-    "ANTIALIAS": "nothing is smoothed",
+    "ANTIALIAS": "a map is smoothed as a whole, by CONFIG \"WMS_SMOOTHING\"",
     "SYMBOL TRANSPARENT": "pixels of the colour 255 0 255 are transparent",
     "SYMBOL ANCHORPOINT": "a pixmap stands centred on its point",
     "LAYER GROUP": "the layers of the document have no groups",
@@ -235,6 +235,10 @@ CHOICES = {
 }
 # The names that a key of CONFIG takes, with spaces between them.
 OFFERED = {"WMS_FORMATS": "image/png image/x-portable-pixmap image/x-portable-arbitrarymap", "WMS_CRS": "EPSG:3857"}
+# The values of the key WMS_SMOOTHING.
+SMOOTHINGS = "1 2 3 4"
+# The keys of CONFIG that have an effect.
+CONFIGS = {"LABELFONT", "WMS_SMOOTHING", *OFFERED}
 
 # What to write for a value of MapServer's that isn't taken, by block and keyword and then the value.
 VALUES = {

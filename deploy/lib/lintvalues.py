@@ -63,6 +63,9 @@ class Values:
             offered = keywords.OFFERED[first.text]
             if set(values[1].text.split(" ")) - {"", *offered.split()}:
                 self.refused(values[1], f"CONFIG {first}", " or ".join(offered.split()))
+        elif key == "MAP CONFIG" and first.text == "WMS_SMOOTHING":
+            if values[1].text not in keywords.SMOOTHINGS.split():
+                self.refused(values[1], f"CONFIG {first}", " or ".join(keywords.SMOOTHINGS.split()))
 
     def check_count(self, value, word, least, most):
         counted = mapfile.count(value.text)

@@ -79,12 +79,12 @@ found-all {X} {Y} f xs found rising indices nothing =
 -- a feature gives no candidate, or has its box in the window
 module _ (view : ViewValue) (margin : ℕ) (layer : LayerFields) (feature : FeatureFields) (limits : IsView view) where
   by-anchor : (label : LabelFields) (o : Option PixelValue) → shown_anchor view layer.kind feature ≡ o →
-      (option_map_or (candidate_at label (label_text layer feature)) o [] ++ [] ≡ []) ⊎ HasBoxIn (window view margin) feature
+      (option_map_or (candidate_at view.factor label (label_text layer feature)) o [] ++ [] ≡ []) ⊎ HasBoxIn (window view margin) feature
   by-anchor label None e = inl refl
   by-anchor label (Some p) e = inr (anchors-near view margin layer.kind feature p limits e)
 
   by-label : (o : Option LabelFields) →
-      (option_map_or (λ label. option_map_or (candidate_at label (label_text layer feature)) (shown_anchor view layer.kind feature) []) o [] ++ [] ≡ []) ⊎ HasBoxIn (window view margin) feature
+      (option_map_or (λ label. option_map_or (candidate_at view.factor label (label_text layer feature)) (shown_anchor view layer.kind feature) []) o [] ++ [] ≡ []) ⊎ HasBoxIn (window view margin) feature
   by-label None = inl refl
   by-label (Some label) = by-anchor label (shown_anchor view layer.kind feature) refl
 

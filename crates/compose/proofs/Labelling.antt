@@ -57,9 +57,9 @@ labelled scene font candidates labels a b e placed painted = record {
 -- what may be placed of a feature whose class has a label, which has a text and an anchor in the picture
 pub candidate-is : (view : ViewValue) (font : Option FontFields) (f : FontFields) (classified : ClassifiedFeatureValue) (label : LabelFields) (text : List ℕ) (p : PixelValue) → Some f ≡ font → classified.class.label ≡ Some label →
     text ≡ label_text classified.layer classified.feature → (length text == 0) ≡ false → shown_anchor view classified.layer.kind classified.feature ≡ Some p →
-    classified_candidates view font classified ≡ record { text = text; anchor = p; label = label } ∷ []
+    classified_candidates view font classified ≡ record { text = text; anchor = p; label = label; factor = view.factor } ∷ []
 candidate-is view font f classified label text p has labelled written some at = rw (← has, labelled, at, ← written) (go text some)
   where
-    go : (text : List ℕ) → (length text == 0) ≡ false → candidate_at label text p ≡ record { text = text; anchor = p; label = label } ∷ []
+    go : (text : List ℕ) → (length text == 0) ≡ false → candidate_at view.factor label text p ≡ record { text = text; anchor = p; label = label; factor = view.factor } ∷ []
     go [] some = absurd (cc)
     go (b ∷ bs) some = refl

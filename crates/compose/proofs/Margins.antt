@@ -17,22 +17,22 @@ max-assoc a b c =
     omega (arith, most, least)
 
 -- the furthest of two lists of styles
-furthest-append : (symbols : List Symbol) (xs ys : List StyleFields) → furthest symbols (xs ++ ys) ≡ max (furthest symbols xs) (furthest symbols ys)
-furthest-append symbols [] ys = sym (zero-max (furthest symbols ys))
-furthest-append symbols (x ∷ xs) ys =
-    ap (λ n. max (reach_of symbols x) n) (furthest-append symbols xs ys) ∙ sym (max-assoc (reach_of symbols x) (furthest symbols xs) (furthest symbols ys))
+furthest-append : (factor : ℕ) (symbols : List Symbol) (xs ys : List StyleFields) → furthest factor symbols (xs ++ ys) ≡ max (furthest factor symbols xs) (furthest factor symbols ys)
+furthest-append factor symbols [] ys = sym (zero-max (furthest factor symbols ys))
+furthest-append factor symbols (x ∷ xs) ys =
+    ap (λ n. max (reach_of factor symbols x) n) (furthest-append factor symbols xs ys) ∙ sym (max-assoc (reach_of factor symbols x) (furthest factor symbols xs) (furthest factor symbols ys))
 
 -- the styles of some classes
 abbrev pub styles_of : List ClassFields → List StyleFields
 styles_of classes = flat_map (λ (class : ClassFields). class.styles) classes
 
 -- those of one class more
-pub class-step : (symbols : List Symbol) (classes : List ClassFields) (i found new all : ℕ) (class : ClassFields) → i < length classes → class ≡ get_or classes i class →
-    new ≡ max found (furthest symbols class.styles) → max found (furthest symbols (styles_of (drop i classes))) ≡ all →
-    max new (furthest symbols (styles_of (drop (i + 1) classes))) ≡ all
-class-step symbols classes i found new all class h is more before =
-    ap (λ n. max n (furthest symbols (styles_of (drop (i + 1) classes)))) more
-    ∙ (max-assoc found (furthest symbols class.styles) (furthest symbols (styles_of (drop (i + 1) classes)))
-    ∙ (sym (ap (λ n. max found n) (furthest-append symbols class.styles (styles_of (drop (i + 1) classes))))
-    ∙ (ap (λ (c : ClassFields). max found (furthest symbols (c.styles ++ styles_of (drop (i + 1) classes)))) is
-    ∙ (sym (ap (λ n. max found n) (at_drop_more (λ cs. furthest symbols (styles_of cs)) classes i class h)) ∙ before))))
+pub class-step : (factor : ℕ) (symbols : List Symbol) (classes : List ClassFields) (i found new all : ℕ) (class : ClassFields) → i < length classes → class ≡ get_or classes i class →
+    new ≡ max found (furthest factor symbols class.styles) → max found (furthest factor symbols (styles_of (drop i classes))) ≡ all →
+    max new (furthest factor symbols (styles_of (drop (i + 1) classes))) ≡ all
+class-step factor symbols classes i found new all class h is more before =
+    ap (λ n. max n (furthest factor symbols (styles_of (drop (i + 1) classes)))) more
+    ∙ (max-assoc found (furthest factor symbols class.styles) (furthest factor symbols (styles_of (drop (i + 1) classes)))
+    ∙ (sym (ap (λ n. max found n) (furthest-append factor symbols class.styles (styles_of (drop (i + 1) classes))))
+    ∙ (ap (λ (c : ClassFields). max found (furthest factor symbols (c.styles ++ styles_of (drop (i + 1) classes)))) is
+    ∙ (sym (ap (λ n. max found n) (at_drop_more (λ cs. furthest factor symbols (styles_of cs)) classes i class h)) ∙ before))))

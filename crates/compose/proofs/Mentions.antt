@@ -188,7 +188,7 @@ unlabelled-class view None classified none = refl
 unlabelled-class view (Some font) classified none = go classified.class.label none
   where
     go : (label : Option LabelFields) → is_some label ≡ false →
-        option_map_or (λ l. option_map_or (candidate_at l (label_text classified.layer classified.feature)) (shown_anchor view classified.layer.kind classified.feature) []) label [] ≡ []
+        option_map_or (λ l. option_map_or (candidate_at view.factor l (label_text classified.layer classified.feature)) (shown_anchor view classified.layer.kind classified.feature) []) label [] ≡ []
     go None none = refl
     go (Some l) none = absurd (false≢true (sym none))
 

@@ -67,18 +67,18 @@ map-each f h k same [] = refl
 map-each f h k same (x ∷ xs) = rw (same x, map-each f h k same xs) refl
 
 -- what a style paints round a pixel
-abbrev shapes_at : List Symbol → StyleFields → Option ℕ → PixelValue → List PaintedShape
-shapes_at symbols style symbol pixel = elim symbol [
+abbrev shapes_at : ℕ → List Symbol → StyleFields → Option ℕ → PixelValue → List PaintedShape
+shapes_at factor symbols style symbol pixel = elim symbol [
   | Some index ↦ option_map_or (stamps pixel) (slice_get symbols index) []
-  | None ↦ marks (record { pixel = pixel; size = style.size }) style.colour
+  | None ↦ marks (record { pixel = pixel; size = factor * style.size }) style.colour
 ]
 
-shapes_at-moved : (c : PixelValue) (symbols : List Symbol) (style : StyleFields) (symbol : Option ℕ) (pixel : PixelValue) →
-    shapes_at symbols style symbol (pixel_from c pixel) ≡ map (shape_from c) (shapes_at symbols style symbol pixel)
-shapes_at-moved c symbols style (Some index) pixel = option-moved (shape_from c) (stamps (pixel_from c pixel)) (stamps pixel) (λ s. refl) (slice_get symbols index)
-shapes_at-moved c symbols style None pixel = go style.colour
+shapes_at-moved : (c : PixelValue) (factor : ℕ) (symbols : List Symbol) (style : StyleFields) (symbol : Option ℕ) (pixel : PixelValue) →
+    shapes_at factor symbols style symbol (pixel_from c pixel) ≡ map (shape_from c) (shapes_at factor symbols style symbol pixel)
+shapes_at-moved c factor symbols style (Some index) pixel = option-moved (shape_from c) (stamps (pixel_from c pixel)) (stamps pixel) (λ s. refl) (slice_get symbols index)
+shapes_at-moved c factor symbols style None pixel = go style.colour
   where
-    go : (colour : Option Rgb) → marks (record { pixel = pixel_from c pixel; size = style.size }) colour ≡ map (shape_from c) (marks (record { pixel = pixel; size = style.size }) colour)
+    go : (colour : Option Rgb) → marks (record { pixel = pixel_from c pixel; size = factor * style.size }) colour ≡ map (shape_from c) (marks (record { pixel = pixel; size = factor * style.size }) colour)
     go None = refl
     go (Some colour) = refl
 
@@ -116,22 +116,24 @@ module _ (view : ViewValue) (across down : Stretch) where
 
   module _ (symbols : List Symbol) (feature : FeatureFields) where
     polygon-moved : (style : StyleFields) →
-        polygon_shapes (parts_of block feature) style ≡ map (shape_from corner) (polygon_shapes (parts_of whole feature) style)
+        polygon_shapes view.factor (parts_of block feature) style ≡ map (shape_from corner) (polygon_shapes view.factor (parts_of whole feature) style)
     polygon-moved style =
-        ap (λ rings. polygon_shapes rings style) (points-moved feature.parts)
-        ∙ append-moved (shape_from corner) (fills (points_from corner (parts_of whole feature)) style.colour) (strokes (line_of (points_from corner (parts_of whole feature)) true style.width) style.outline)
-        (fills (parts_of whole feature) style.colour) (strokes (line_of (parts_of whole feature) true style.width) style.outline)
-        (fills-moved corner (parts_of whole feature) style.colour) (strokes-moved corner (parts_of whole feature) true style.width style.outline)
+        let rings = parts_of whole feature in
+        let width = view.factor * style.width in
+        ap (λ points. polygon_shapes view.factor points style) (points-moved feature.parts)
+        ∙ append-moved (shape_from corner) (fills (points_from corner rings) style.colour) (strokes (line_of (points_from corner rings) true width) style.outline)
+        (fills rings style.colour) (strokes (line_of rings true width) style.outline)
+        (fills-moved corner rings style.colour) (strokes-moved corner rings true width style.outline)
 
-    line-moved : (style : StyleFields) → line_shapes (parts_of block feature) style ≡ map (shape_from corner) (line_shapes (parts_of whole feature) style)
+    line-moved : (style : StyleFields) → line_shapes view.factor (parts_of block feature) style ≡ map (shape_from corner) (line_shapes view.factor (parts_of whole feature) style)
     line-moved style =
-        ap (λ parts. line_shapes parts style) (points-moved feature.parts)
-        ∙ strokes-moved corner (parts_of whole feature) false style.width style.colour
+        ap (λ parts. line_shapes view.factor parts style) (points-moved feature.parts)
+        ∙ strokes-moved corner (parts_of whole feature) false (view.factor * style.width) style.colour
 
     place-moved : (style : StyleFields) (p : Place) → point_shapes block symbols style p ≡ map (shape_from corner) (point_shapes whole symbols style p)
     place-moved style p =
-        ap (shapes_at symbols style style.symbol) (pixel-moved p)
-        ∙ shapes_at-moved corner symbols style style.symbol (pixel_of (device_point whole p))
+        ap (shapes_at view.factor symbols style style.symbol) (pixel-moved p)
+        ∙ shapes_at-moved corner view.factor symbols style style.symbol (pixel_of (device_point whole p))
 
     style-moved : (k : Geometry) (style : StyleFields) → style_shapes block symbols k feature style ≡ map (shape_from corner) (style_shapes whole symbols k feature style)
     style-moved kind.Polygon style = polygon-moved style

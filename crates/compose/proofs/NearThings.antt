@@ -1,5 +1,5 @@
 -- Points all round a pixel that is painted of a feature.
-use Rattle.std.proofs.Common.{◌≡◌, ◌∙◌, ℕ, ◌<◌, ◌≤◌, max, Bool, true, false, ◌||◌, List, [], ◌∷◌, Option, None, Some, refl, sym, arith, ⊎_elim}
+use Rattle.std.proofs.Common.{◌≡◌, ◌∙◌, ℕ, ◌*◌, ◌<◌, ◌≤◌, max, Bool, true, false, ◌||◌, List, [], ◌∷◌, Option, None, Some, refl, sym, arith, ⊎_elim}
 use Rattle.std.proofs.Math.Nat.{le-max_left, le-max_right}
 use Rattle.std.proofs.lemmas.List.Folds.{list_any-append}
 use Rattle.std.specs.List.{Contains, flat_map, list_any, slice_get}
@@ -35,11 +35,11 @@ use Rattle.vertices.proofs.NearLines.{line-round}
 use Rattle.vertices.proofs.NearShapes.{IsBy, by-round, fill-round, square-by, stamp-by}
 
 -- no style of the list paints further than the furthest
-pub reach-furthest : (symbols : List Symbol) (styles : List StyleFields) (style : StyleFields) → Contains styles style → reach_of symbols style ≤ furthest symbols styles
-reach-furthest symbols [] style c = absurd (omega (arith, c.1))
-reach-furthest symbols (s ∷ styles) style c = ⊎_elim
-    (λ (e : s ≡ style). rw e (le-max_left (reach_of symbols style) (furthest symbols styles)))
-    (λ (d : Contains styles style). omega (arith, reach-furthest symbols styles style d, le-max_right (reach_of symbols s) (furthest symbols styles)))
+pub reach-furthest : (factor : ℕ) (symbols : List Symbol) (styles : List StyleFields) (style : StyleFields) → Contains styles style → reach_of factor symbols style ≤ furthest factor symbols styles
+reach-furthest factor symbols [] style c = absurd (omega (arith, c.1))
+reach-furthest factor symbols (s ∷ styles) style c = ⊎_elim
+    (λ (e : s ≡ style). rw e (le-max_left (reach_of factor symbols style) (furthest factor symbols styles)))
+    (λ (d : Contains styles style). omega (arith, reach-furthest factor symbols styles style d, le-max_right (reach_of factor symbols s) (furthest factor symbols styles)))
     (first_or s style styles c)
 
 -- a list of one shape covers what the shape covers
@@ -61,15 +61,16 @@ marks-cover square None i j h = absurd (cc)
 marks-cover square (Some colour) i j h = one-shape (covers_square square (pos i) (pos j)) h
 
 -- a polygon
-polygon-round : (view : ViewValue) (margin : ℕ) (feature : FeatureFields) (style : StyleFields) (i j : ℕ) → style.width ≤ margin → i < view.width → j < view.height →
-    list_any (λ t. covers t i j) (polygon_shapes (parts_of view feature) style) ≡ true → AreRound view margin (points_of feature)
+polygon-round : (view : ViewValue) (margin : ℕ) (feature : FeatureFields) (style : StyleFields) (i j : ℕ) → view.factor * style.width ≤ margin → i < view.width → j < view.height →
+    list_any (λ t. covers t i j) (polygon_shapes view.factor (parts_of view feature) style) ≡ true → AreRound view margin (points_of feature)
 polygon-round view margin feature style i j wide column row h =
     let rings : List (List DevicePoint) = parts_of view feature in
+    let width = view.factor * style.width in
     let first : List PaintedShape = fills rings style.colour in
-    let second : List PaintedShape = strokes (line_of rings true style.width) style.outline in
+    let second : List PaintedShape = strokes (line_of rings true width) style.outline in
     ⊎_elim
     (λ (e : list_any (λ t. covers t i j) first ≡ true). fill-round view margin feature.parts i j column row (fills-cover rings style.colour i j e))
-    (λ (e : list_any (λ t. covers t i j) second ≡ true). line-round view margin true style.width feature.parts i j wide column row (strokes-cover (line_of rings true style.width) style.outline i j e))
+    (λ (e : list_any (λ t. covers t i j) second ≡ true). line-round view margin true width feature.parts i j wide column row (strokes-cover (line_of rings true width) style.outline i j e))
     (or-cases (list_any (λ t. covers t i j) first) (list_any (λ t. covers t i j) second) (sym (list_any-append (λ t. covers t i j) first second) ∙ h))
 
 -- a symbol at a point
@@ -93,43 +94,53 @@ point-by view margin symbols v size colour (Some index) i j wide high column row
 
 -- the points of a feature, one of which is painted by a style
 points-round : (view : ViewValue) (margin : ℕ) (symbols : List Symbol) (feature : FeatureFields) (style : StyleFields) (i j : ℕ) →
-    style.size ≤ margin → symbol_reach symbols style.symbol ≤ margin → i < view.width → j < view.height →
+    view.factor * style.size ≤ margin → symbol_reach symbols style.symbol ≤ margin → i < view.width → j < view.height →
     list_any (λ t. covers t i j) (flat_map (λ part. flat_map (point_shapes view symbols style) part) feature.parts) ≡ true → AreRound view margin (points_of feature)
 points-round view margin symbols feature style i j wide high column row h =
     let (part, among, e) = any-flat_map (λ t. covers t i j) (λ (part : List Place). flat_map (point_shapes view symbols style) part) feature.parts h in
     let (q, there, f) = any-flat_map (λ t. covers t i j) (point_shapes view symbols style) part e in
     by-round view margin (points_of feature) q (contains-flat (λ (part : List Place). part) feature.parts part q among there)
-    (point-by view margin symbols (device_point view q) style.size style.colour style.symbol i j wide high column row f)
+    (point-by view margin symbols (device_point view q) (view.factor * style.size) style.colour style.symbol i j wide high column row f)
+
+-- the width of a style is no more than its reach
+width-within : (factor : ℕ) (symbols : List Symbol) (style : StyleFields) (margin : ℕ) → reach_of factor symbols style ≤ margin → factor * style.width ≤ margin
+width-within factor symbols style margin most =
+    let width = factor * style.width in
+    let both = max width (factor * style.size) in
+    omega (arith, most, le-max_left both (symbol_reach symbols style.symbol), le-max_left width (factor * style.size))
 
 -- what a style paints of a feature of any kind
 style-round : (view : ViewValue) (margin : ℕ) (symbols : List Symbol) (k : Geometry) (feature : FeatureFields) (style : StyleFields) (i j : ℕ) →
-    reach_of symbols style ≤ margin → i < view.width → j < view.height →
+    reach_of view.factor symbols style ≤ margin → i < view.width → j < view.height →
     list_any (λ t. covers t i j) (style_shapes view symbols k feature style) ≡ true → AreRound view margin (points_of feature)
 style-round view margin symbols kind.Polygon feature style i j most column row h =
-    let wide : style.width ≤ margin = omega (arith, most, le-max_left (max style.width style.size) (symbol_reach symbols style.symbol), le-max_left style.width style.size) in
+    let wide : view.factor * style.width ≤ margin = width-within view.factor symbols style margin most in
     polygon-round view margin feature style i j wide column row h
 style-round view margin symbols kind.Line feature style i j most column row h =
-    let wide : style.width ≤ margin = omega (arith, most, le-max_left (max style.width style.size) (symbol_reach symbols style.symbol), le-max_left style.width style.size) in
-    line-round view margin false style.width feature.parts i j wide column row (strokes-cover (line_of (parts_of view feature) false style.width) style.colour i j h)
+    let wide : view.factor * style.width ≤ margin = width-within view.factor symbols style margin most in
+    line-round view margin false (view.factor * style.width) feature.parts i j wide column row
+    (strokes-cover (line_of (parts_of view feature) false (view.factor * style.width)) style.colour i j h)
 style-round view margin symbols kind.Point feature style i j most column row h =
-    let wide : style.size ≤ margin = omega (arith, most, le-max_left (max style.width style.size) (symbol_reach symbols style.symbol), le-max_right style.width style.size) in
-    let high : symbol_reach symbols style.symbol ≤ margin = omega (arith, most, le-max_right (max style.width style.size) (symbol_reach symbols style.symbol)) in
+    let size = view.factor * style.size in
+    let both = max (view.factor * style.width) size in
+    let wide : size ≤ margin = omega (arith, most, le-max_left both (symbol_reach symbols style.symbol), le-max_right (view.factor * style.width) size) in
+    let high : symbol_reach symbols style.symbol ≤ margin = omega (arith, most, le-max_right both (symbol_reach symbols style.symbol)) in
     points-round view margin symbols feature style i j wide high column row h
 
 -- what its class paints, if it has one
 classed-round : (view : ViewValue) (symbols : List Symbol) (layer : LayerFields) (feature : FeatureFields) (class : Option ClassFields) (i j : ℕ) →
     ((c : ClassFields) → class ≡ Some c → Contains layer.classes c) → i < view.width → j < view.height →
-    list_any (λ t. covers t i j) (option_map_or (class_shapes view symbols layer.kind feature) class []) ≡ true → AreRound view (margin_of symbols layer) (points_of feature)
+    list_any (λ t. covers t i j) (option_map_or (class_shapes view symbols layer.kind feature) class []) ≡ true → AreRound view (margin_of view.factor symbols layer) (points_of feature)
 classed-round view symbols layer feature None i j there column row h = absurd (cc)
 classed-round view symbols layer feature (Some class) i j there column row h =
     let (style, among, e) = any-flat_map (λ t. covers t i j) (style_shapes view symbols layer.kind feature) class.styles h in
-    style-round view (margin_of symbols layer) symbols layer.kind feature style i j
-    (reach-furthest symbols (flat_map (λ (c : ClassFields). c.styles) layer.classes) style
+    style-round view (margin_of view.factor symbols layer) symbols layer.kind feature style i j
+    (reach-furthest view.factor symbols (flat_map (λ (c : ClassFields). c.styles) layer.classes) style
     (contains-flat (λ (c : ClassFields). c.styles) layer.classes class style (there class refl) among)) column row e
 
 -- the law
 pub paints-near : PaintsNear
 paints-near view scale symbols layer feature i j limits column row h =
-    box-in view (margin_of symbols layer) (points_of feature) limits
+    box-in view (margin_of view.factor symbols layer) (points_of feature) limits
     (classed-round view symbols layer feature (class_of scale layer feature) i j
     (λ c e. found-there (admits scale layer feature) layer.classes c e) column row h)

@@ -41,7 +41,7 @@ column-below at w some = omega arith
 -- the candidates in the window of a layer's margin paint what all its features do
 pub spared : (view : ViewValue) (scale : PictureScale) (symbols : List Symbol) (layer : LayerFields) (found : List ℕ) (a b : PictureFields) →
     IsView view → a.width ≡ view.width → a.height ≡ view.height → length a.pixels ≡ a.width * a.height →
-    AreCandidates layer.features (window view (margin_of symbols layer)) found →
+    AreCandidates layer.features (window view (margin_of view.factor symbols layer)) found →
     IsPainted a b (flat_map (given_at (feature_shapes view scale symbols layer) layer.features) found) →
     IsPainted a b (flat_map (feature_shapes view scale symbols layer) layer.features)
 spared view scale symbols layer found a b limits wide high area are p = record {
@@ -61,7 +61,7 @@ spared view scale symbols layer found a b limits wide high area are p = record {
 pub spared-drawing : (scene : SceneValue) (layer : LayerFields) (found : List ℕ) (a b : DrawingValue) →
     IsView scene.view →
     a.canvas.width ≡ scene.view.width → a.canvas.height ≡ scene.view.height → length a.canvas.pixels ≡ a.canvas.width * a.canvas.height →
-    AreCandidates layer.features (window scene.view (margin_of scene.map.symbols layer)) found →
+    AreCandidates layer.features (window scene.view (margin_of scene.view.factor scene.map.symbols layer)) found →
     IsDrawn scene a b (flat_map (given_at (classified_feature scene.scale layer) layer.features) found) →
     IsDrawn scene a b (flat_map (classified_feature scene.scale layer) layer.features)
 spared-drawing scene layer found a b limits wide high area are p =
@@ -76,7 +76,7 @@ spared-drawing scene layer found a b limits wide high area are p =
           (rw (← given-nested shapes (classified_feature scene.scale layer) painted same layer.features found) at p.painted));
       labelled = p.labelled
           ∙ ap (λ (z : List CandidateValue). a.labels ++ z)
-          (found-label-all view (margin_of symbols layer) scene.scale scene.map.font layer found limits are);
+          (found-label-all view (margin_of view.factor symbols layer) scene.scale scene.map.font layer found limits are);
     }
 
 -- the classified features of a layer are those of its index in the map

@@ -39,15 +39,15 @@ feature_text layer feature = elim feature.text [
 abbrev pub label_text : LayerFields → FeatureFields → List ℕ
 label_text layer feature = first_characters MAX_CHARACTERS (feature_text layer feature)
 
--- a text that isn't empty may be placed at an anchor
-abbrev pub candidate_at : LabelFields → List ℕ → PixelValue → List CandidateValue
-candidate_at label [] anchor = []
-candidate_at label (b ∷ bs) anchor = record { text = b ∷ bs; anchor = anchor; label = label } ∷ []
+-- a text that isn't empty may be placed at an anchor, where a map's pixel is so many of the picture's
+abbrev pub candidate_at : ℕ → LabelFields → List ℕ → PixelValue → List CandidateValue
+candidate_at factor label [] anchor = []
+candidate_at factor label (b ∷ bs) anchor = record { text = b ∷ bs; anchor = anchor; label = label; factor = factor } ∷ []
 
 -- the candidate of a classified feature: its text, where its class has a label and its anchor lies in the picture
 abbrev pub label_candidates : ViewValue → ClassifiedFeatureValue → List CandidateValue
 label_candidates view classified =
-    option_map_or (λ label. option_map_or (candidate_at label (label_text classified.layer classified.feature)) (shown_anchor view classified.layer.kind classified.feature) []) classified.class.label []
+    option_map_or (λ label. option_map_or (candidate_at view.factor label (label_text classified.layer classified.feature)) (shown_anchor view classified.layer.kind classified.feature) []) classified.class.label []
 
 -- the same on a map, which has no labels without a font
 abbrev pub classified_candidates : ViewValue → Option FontFields → ClassifiedFeatureValue → List CandidateValue

@@ -1,5 +1,5 @@
 -- How far a feature's paint reaches from its points (docs/DRAWING.md, "How features are painted").
-use Rattle.std.specs.Prelude.{◌≡◌, ℕ, ◌<◌, max, true, List, [], ◌∷◌, Option, None, Some, length, All, slice_get}
+use Rattle.std.specs.Prelude.{◌≡◌, ℕ, ◌*◌, ◌<◌, max, true, List, [], ◌∷◌, Option, None, Some, length, All, slice_get}
 use Rattle.std.specs.List.{Contains, flat_map, list_any}
 use Rattle.std.specs.List.Sorted.{IsStrictlyIncreasing}
 use Rattle.mapdefs.specs.declared.colour.Rgb.{Rgb}
@@ -26,25 +26,25 @@ abbrev pub symbol_reach : List Symbol → Option ℕ → ℕ
 symbol_reach symbols (Some index) = option_map_or side_of (slice_get symbols index) 0
 symbol_reach symbols None = 0
 
--- how far a style paints from a point at most: its width, its size and the sides of its symbol
-abbrev pub reach_of : List Symbol → StyleFields → ℕ
-reach_of symbols style = max (max style.width style.size) (symbol_reach symbols style.symbol)
+-- how far a style paints from a point at most, where a map's pixel is so many of the picture's: its width, its size and the sides of its symbol
+abbrev pub reach_of : ℕ → List Symbol → StyleFields → ℕ
+reach_of factor symbols style = max (max (factor * style.width) (factor * style.size)) (symbol_reach symbols style.symbol)
 
 -- the furthest that some styles paint, or 0 without any
-abbrev pub furthest : List Symbol → List StyleFields → ℕ
-furthest symbols [] = 0
-furthest symbols (style ∷ styles) = max (reach_of symbols style) (furthest symbols styles)
+abbrev pub furthest : ℕ → List Symbol → List StyleFields → ℕ
+furthest factor symbols [] = 0
+furthest factor symbols (style ∷ styles) = max (reach_of factor symbols style) (furthest factor symbols styles)
 
 -- the margin of a layer: the furthest that the styles of its classes paint
-abbrev pub margin_of : List Symbol → LayerFields → ℕ
-margin_of symbols layer = furthest symbols (flat_map (λ (class : ClassFields). class.styles) layer.classes)
+abbrev pub margin_of : ℕ → List Symbol → LayerFields → ℕ
+margin_of factor symbols layer = furthest factor symbols (flat_map (λ (class : ClassFields). class.styles) layer.classes)
 
 -- the law: where some shape that is painted of a feature covers a pixel of the picture, its box meets the window of the layer's margin
 abbrev pub PaintsNear : Type 0
 PaintsNear = (view : ViewValue) (scale : PictureScale) (symbols : List Symbol) (layer : LayerFields) (feature : FeatureFields) (i j : ℕ) →
     IsView view → i < view.width → j < view.height →
     list_any (λ shape. covers shape i j) (feature_shapes view scale symbols layer feature) ≡ true →
-    HasBoxIn (window view (margin_of symbols layer)) feature
+    HasBoxIn (window view (margin_of view.factor symbols layer)) feature
 
 -- the law: painting candidates in their order is painting all, where each whose shapes cover a pixel of the picture is a candidate
 abbrev pub CandidatesPaintAll : Type 0

@@ -1,5 +1,5 @@
 -- What is painted, and in which order (docs/DRAWING.md, "How features are painted").
-use Rattle.std.specs.Prelude.{ℕ, true, if◌then◌else◌, List, [], ◌++◌, slice_get}
+use Rattle.std.specs.Prelude.{ℕ, if◌then◌else◌, List, [], ◌++◌, slice_get}
 use Rattle.std.specs.List.{flat_map}
 use Rattle.std.specs.Option.{option_map_or}
 use Rattle.geom.specs.Device.{DevicePoint}
@@ -13,23 +13,22 @@ use Rattle.mapdefs.specs.declared.layer.LayerFields.{LayerFields}
 use Rattle.mapdefs.specs.declared.map.MapFields.{MapFields}
 use Rattle.mapdefs.specs.declared.style.StyleFields.{StyleFields}
 use Rattle.mapdefs.specs.declared.symbol.Symbol.{Symbol}
-use Rattle.strokes.specs.Line.{line_of}
 use Rattle.viewport.specs.View.{ViewValue, points_of}
-use Rattle.canvas.specs.Shapes.{PaintedShape, fills, strokes}
-use Rattle.inking.specs.Styles.{line_shapes, point_shapes}
+use Rattle.canvas.specs.Shapes.{PaintedShape, fills}
+use Rattle.inking.specs.Styles.{line_shapes, outline_shapes, point_shapes}
 
 -- the parts of a feature on the picture: the rings of a polygon, or lines
 abbrev pub parts_of : ViewValue → FeatureFields → List (List DevicePoint)
 parts_of view feature = points_of view feature.parts
 
--- what a style paints of a polygon: its rings, and then the closed line along them in the colour of the outline
-abbrev pub polygon_shapes : List (List DevicePoint) → StyleFields → List PaintedShape
-polygon_shapes rings style = fills rings style.colour ++ strokes (line_of rings true style.width) style.outline
+-- what a style paints of a polygon, where a map's pixel is so many of the picture's: its rings, and then their outline
+abbrev pub polygon_shapes : ℕ → List (List DevicePoint) → StyleFields → List PaintedShape
+polygon_shapes factor rings style = fills rings style.colour ++ outline_shapes factor rings style
 
 -- what a style paints of a feature of that kind, of which the points are painted one after another
 abbrev pub style_shapes : ViewValue → List Symbol → Geometry → FeatureFields → StyleFields → List PaintedShape
-style_shapes view symbols kind.Polygon feature style = polygon_shapes (parts_of view feature) style
-style_shapes view symbols kind.Line feature style = line_shapes (parts_of view feature) style
+style_shapes view symbols kind.Polygon feature style = polygon_shapes view.factor (parts_of view feature) style
+style_shapes view symbols kind.Line feature style = line_shapes view.factor (parts_of view feature) style
 style_shapes view symbols kind.Point feature style = flat_map (λ part. flat_map (point_shapes view symbols style) part) feature.parts
 
 -- what a class paints of a feature: its styles, in order

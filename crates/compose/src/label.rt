@@ -73,7 +73,7 @@ pub fn add_candidate<'a>(
         return Ok(());
     }
     match shown_anchor(scene, classified.layer().kind, classified.feature()) {
-        Some(anchor) => labels.add(Candidate::new(text, anchor, label.get())),
+        Some(anchor) => { labels.add(Candidate::new(text, anchor, label.get(), scene.factor())) }
         None => Ok(()),
     }
 }

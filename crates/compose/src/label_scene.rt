@@ -6,7 +6,7 @@ ghost use Rattle.mapdefs.specs.Class.{class_of, is_visible_layer};
 ghost use Rattle.viewport.specs.View.{IsView, device_point, whole_of, window};
 ghost use Rattle.compose.specs.Labels.{ArePlaced};
 
-use geom::{Pixel, World, WorldBox};
+use geom::{Factor, Pixel, World, WorldBox};
 use labelcache::{Cache, Placed};
 use mapdefs::{ClassFields, FeatureFields, Font, LayerFields};
 use scene::Scene;
@@ -78,6 +78,13 @@ impl<'s, 'a> LabelScene<'s, 'a> {
         ensures { result ≡ self.now.view.height }
     {
         self.rows
+    }
+
+    /// How many pixels a map's pixel is, in both directions.
+    pub fn factor(&self) -> Factor
+        ensures { result ≡ self.now.view.factor }
+    {
+        self.scene.factor()
     }
 
     /// The pixel that a place lies in.

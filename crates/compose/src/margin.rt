@@ -1,7 +1,8 @@
 ghost use Rattle.std.specs.Prelude.{◌≡◌, ◌≤◌, max};
 ghost use Rattle.compose.specs.Near.{furthest, margin_of, reach_of, side_of, symbol_reach};
-ghost use Rattle.mapdefs.specs.declared.limits.TheConstants.{MAX_SYMBOL_SIDE};
+ghost use Rattle.mapdefs.specs.declared.limits.TheConstants.{MAX_FINE_SQUARE, MAX_SYMBOL_SIDE};
 
+use geom::Factor;
 use mapdefs::{LayerFields, Style, Symbol};
 
 // The greater side of a symbol's pixmap.
@@ -28,38 +29,39 @@ fn reach_of_symbol(symbols: &[Symbol], index: Option<usize>) -> u16
 }
 
 // How far a style paints from a point at most.
-fn reach_of(symbols: &[Symbol], style: &Style) -> u16
-    ensures value { result ≡ reach_of symbols.now style.now }
-    ensures most { result ≤ 256 }
+fn reach_of(factor: Factor, symbols: &[Symbol], style: &Style) -> u16
+    ensures value { result ≡ reach_of factor symbols.now style.now }
+    ensures most { result ≤ MAX_FINE_SQUARE }
 {
     let style = style.get();
-    u16::from(style.width)
-        .max(style.size)
+    factor
+        .fine(u16::from(style.width))
+        .max(factor.fine(style.size))
         .max(reach_of_symbol(symbols, style.symbol))
 }
 
 // The greater of a reach and the furthest that some styles paint.
-fn further(most: u16, symbols: &[Symbol], styles: &[Style]) -> u16
-    requires { most ≤ 256 }
-    ensures value { result ≡ max most (furthest symbols.now styles.now) }
-    ensures most { result ≤ 256 }
+fn further(most: u16, factor: Factor, symbols: &[Symbol], styles: &[Style]) -> u16
+    requires { most ≤ MAX_FINE_SQUARE }
+    ensures value { result ≡ max most (furthest factor symbols.now styles.now) }
+    ensures most { result ≤ MAX_FINE_SQUARE }
 {
     let mut found = most;
     for style in styles {
-        found = found.max(reach_of(symbols, style));
+        found = found.max(reach_of(factor, symbols, style));
     }
     found
 }
 
-/// The furthest that the styles of a layer's classes paint from a point: the greatest of their widths, their sizes and
-/// the sides of their symbols.
-pub fn margin_of(symbols: &[Symbol], layer: &LayerFields) -> u16
-    ensures value { result ≡ margin_of symbols.now layer.now }
-    ensures most { result ≤ 256 }
+/// The furthest that the styles of a layer's classes paint from a point, where a map's pixel is so many of the picture's: the
+/// greatest of their widths, their sizes and the sides of their symbols.
+pub fn margin_of(factor: Factor, symbols: &[Symbol], layer: &LayerFields) -> u16
+    ensures value { result ≡ margin_of factor symbols.now layer.now }
+    ensures most { result ≤ MAX_FINE_SQUARE }
 {
     let mut found = 0;
     for class in layer.classes.as_slice() {
-        found = further(found, symbols, class.get().styles.as_slice());
+        found = further(found, factor, symbols, class.get().styles.as_slice());
     }
     found
 }

@@ -153,7 +153,7 @@ fn draw_layer<'a, N: Near>(
     if !scene.shows(layer) {
         return Ok(());
     }
-    let margin = margin_of(scene.symbols(), layer);
+    let margin = margin_of(scene.factor(), scene.symbols(), layer);
     let found = near.candidates(index, scene.window(margin))?;
     draw_features(drawing, scene, layer, &found)
 }

@@ -22,7 +22,7 @@ pub fn paint_polygon(
     requires width { canvas.old.width ≡ scene.now.view.width }
     requires height { canvas.old.height ≡ scene.now.view.height }
     ensures { let points = points_of scene.now.view rings.now in
-        OnOk result (IsPainted canvas.old canvas.new (flat_map (polygon_shapes points) styles.now)) }
+        OnOk result (IsPainted canvas.old canvas.new (flat_map (polygon_shapes scene.now.view.factor points) styles.now)) }
 {
     for style in styles {
         fill_rings(canvas, scene, rings, style)?;

@@ -2,11 +2,11 @@ ghost use Rattle.std.specs.Prelude.{IsTrue};
 ghost use Rattle.viewport.specs.View.{IsOnSide};
 
 use crate::views::view;
-use geom::{PictureSide, World, WorldBox};
+use geom::{Factor, MAX_FACTOR, PictureSide, World, WorldBox};
 use std::alloc::{AllocError, Global};
 use test_maps::place;
 use test_tables::{TableFault, check_rows, numbers};
-use viewport::{Factor, Fine, MAX_FACTOR, MAX_MARGIN, Stretch, View};
+use viewport::{Fine, MAX_MARGIN, Stretch, View};
 
 // So many pixels of a side from one on, by their numbers.
 fn stretch(first: i64, count: i64) -> Option<Stretch> {

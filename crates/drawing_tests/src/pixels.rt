@@ -152,7 +152,7 @@ false=3 2 3 -1";
 
 fn inside(alloc: Global, row: &str) -> Result<String, AllocError> {
     match numbers(row, ' ') {
-        Some(sides) => format!(in alloc; "{}", pixels(sides).inside(side(8), side(5))),
+        Some(sides) => format!(in alloc; "{}", pixels(sides).inside(8, 5)),
         None => format!(in alloc; "malformed"),
     }
 }

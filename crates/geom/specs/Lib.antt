@@ -3,6 +3,7 @@ pub mod Decimal
 pub mod Device
 pub mod Edge
 pub mod EvenOdd
+pub mod Factor
 pub mod Laws
 pub mod Natural
 pub mod Number

@@ -1,7 +1,6 @@
 ghost use Rattle.std.specs.Prelude.{◌≡◌, ◌^◌, ◌↔◌, IsTrue};
 ghost use Rattle.geom.specs.PxBox.{HasSidesBelow, IsInside, IsUpTo, Meets, Overlap, grown};
 
-use crate::PictureSide;
 use std::marker::Model;
 
 /// A box of pixels: the columns from `left` to before `right`, the rows from `top` to before
@@ -88,8 +87,8 @@ impl PxBox {
         }
     }
 
-    /// Whether all four sides lie within the picture, ends included.
-    pub fn inside(self, width: PictureSide, height: PictureSide) -> bool
+    /// Whether all four sides lie within a picture of that width and height, ends included.
+    pub fn inside(self, width: u16, height: u16) -> bool
         ensures { IsTrue result ↔ IsInside self width height }
     {
         is_within(self.left, self.right, width) && is_within(self.top, self.bottom, height)
@@ -104,9 +103,9 @@ fn overlap(start: i64, end: i64, other_start: i64, other_end: i64) -> bool
 }
 
 // Whether a box's first column or row and the one after its last lie on a side of the picture, ends included.
-fn is_within(start: i64, end: i64, side: PictureSide) -> bool
+fn is_within(start: i64, end: i64, side: u16) -> bool
     ensures { IsTrue result ↔ (IsUpTo side start × IsUpTo side end) }
 {
-    let side = i64::from(side.pixels());
+    let side = i64::from(side);
     0 <= start && start <= side && 0 <= end && end <= side
 }

@@ -3,14 +3,14 @@ use Rattle.std.specs.Prelude.{ℕ, ◌*◌, ◌≤◌, Bool, pos, List}
 use Rattle.std.specs.List.{list_any}
 use Rattle.geom.specs.Device.{DevicePoint, pixel_centre}
 use Rattle.geom.specs.EvenOdd.{edge_between}
-use Rattle.mapdefs.specs.declared.limits.TheConstants.{MAX_LINE_WIDTH}
+use Rattle.mapdefs.specs.declared.limits.TheConstants.{MAX_FINE_WIDTH}
 use Rattle.strokes.specs.Round.{covers_round, has_centre, round_segments}
 use Rattle.inking.specs.Stroked.{PenValue, PixelTest}
 
 -- a round pen's width is within its limits
 pub record IsRoundPen (pen : PenValue) : Type 0 where
   pub some : 1 ≤ pen.width
-  pub most : pen.width ≤ 4 * MAX_LINE_WIDTH
+  pub most : pen.width ≤ MAX_FINE_WIDTH
 
 -- the round line of a width along one part covers a pixel
 abbrev pub round_part_covers : Bool → ℕ → List DevicePoint → PixelTest

@@ -5,7 +5,7 @@ use Rattle.geom.specs.Device.{DevicePoint, pixel_centre}
 use Rattle.geom.specs.EvenOdd.{edge_between}
 use Rattle.geom.specs.World.{Area, Place}
 use Rattle.mapdefs.specs.declared.colour.Rgb.{Rgb}
-use Rattle.mapdefs.specs.declared.limits.TheConstants.{MAX_LINE_WIDTH}
+use Rattle.mapdefs.specs.declared.limits.TheConstants.{MAX_FINE_WIDTH}
 use Rattle.mapdefs.specs.declared.picture.PictureFields.{PictureFields}
 use Rattle.strokes.specs.Line.{covers_centre, segments_of, square_at}
 use Rattle.strokes.specs.Segment.{covers_segment}
@@ -50,7 +50,7 @@ pub record PenValue : Type 0 where
 -- a pen's width is within its limits, and its window contains what its width reaches
 pub record IsPen (pen : PenValue) (window_of_pen : Area) : Type 0 where
   pub some : 1 ≤ pen.width
-  pub most : pen.width ≤ MAX_LINE_WIDTH
+  pub most : pen.width ≤ MAX_FINE_WIDTH
   pub limits : IsView pen.view
   pub window_is : window_of_pen ≡ window pen.view pen.width
 

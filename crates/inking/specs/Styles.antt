@@ -1,5 +1,5 @@
 -- What a style paints of lines and of a point (docs/DRAWING.md, "How features are painted").
-use Rattle.std.specs.Prelude.{false, List, [], None, Some, slice_get}
+use Rattle.std.specs.Prelude.{ℕ, ◌*◌, true, false, List, [], None, Some, slice_get}
 use Rattle.std.specs.Option.{option_map_or}
 use Rattle.geom.specs.Device.{DevicePoint, pixel_of}
 use Rattle.geom.specs.World.{Place}
@@ -9,9 +9,13 @@ use Rattle.strokes.specs.Line.{line_of}
 use Rattle.viewport.specs.View.{ViewValue, device_point}
 use Rattle.canvas.specs.Shapes.{PaintedShape, marks, stamps, strokes}
 
--- what a style paints of lines: the line along them
-abbrev pub line_shapes : List (List DevicePoint) → StyleFields → List PaintedShape
-line_shapes parts style = strokes (line_of parts false style.width) style.colour
+-- what a style paints of lines, where a map's pixel is so many of the picture's: the line along them
+abbrev pub line_shapes : ℕ → List (List DevicePoint) → StyleFields → List PaintedShape
+line_shapes factor parts style = strokes (line_of parts false (factor * style.width)) style.colour
+
+-- what it paints of the outlines of polygons: the closed line along their rings
+abbrev pub outline_shapes : ℕ → List (List DevicePoint) → StyleFields → List PaintedShape
+outline_shapes factor rings style = strokes (line_of rings true (factor * style.width)) style.outline
 
 -- what a style paints of a point: the pixmap of its symbol round the point's pixel, or without a symbol a square round it
 abbrev pub point_shapes : ViewValue → List Symbol → StyleFields → Place → List PaintedShape
@@ -19,5 +23,5 @@ point_shapes view symbols style place =
     let pixel = pixel_of (device_point view place) in
     elim style.symbol [
       | Some index ↦ option_map_or (stamps pixel) (slice_get symbols index) []
-      | None ↦ marks (record { pixel = pixel; size = style.size }) style.colour
+      | None ↦ marks (record { pixel = pixel; size = view.factor * style.size }) style.colour
     ]

@@ -21,7 +21,7 @@ pub fn paint_lines(
     requires width { canvas.old.width ≡ scene.now.view.width }
     requires height { canvas.old.height ≡ scene.now.view.height }
     ensures { let points = points_of scene.now.view parts.now in
-        OnOk result (IsPainted canvas.old canvas.new (flat_map (line_shapes points) styles.now)) }
+        OnOk result (IsPainted canvas.old canvas.new (flat_map (line_shapes scene.now.view.factor points) styles.now)) }
 {
     for style in styles {
         paint_by_style(canvas, scene, parts, style)?;
@@ -38,12 +38,12 @@ fn paint_by_style(
 ) -> Result<(), AllocError>
     requires width { canvas.old.width ≡ scene.now.view.width }
     requires height { canvas.old.height ≡ scene.now.view.height }
-    ensures { OnOk result (IsPainted canvas.old canvas.new (line_shapes (points_of scene.now.view parts.now) style.now)) }
+    ensures { OnOk result (IsPainted canvas.old canvas.new (line_shapes scene.now.view.factor (points_of scene.now.view parts.now) style.now)) }
 {
     let style = style.get();
     let Some(colour) = style.colour else {
         return Ok(());
     };
-    let pen = Pen::new(canvas, scene, style.width, colour);
+    let pen = Pen::of_map(canvas, scene, style.width, colour);
     paint_along_parts(canvas, &pen, parts, false)
 }

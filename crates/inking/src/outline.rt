@@ -1,8 +1,7 @@
-ghost use Rattle.std.specs.Prelude.{◌≡◌, true, OnOk};
-ghost use Rattle.strokes.specs.Line.{line_of};
+ghost use Rattle.std.specs.Prelude.{◌≡◌, OnOk};
 ghost use Rattle.viewport.specs.View.{points_of};
 ghost use Rattle.canvas.specs.Painted.{IsPainted};
-ghost use Rattle.canvas.specs.Shapes.{strokes};
+ghost use Rattle.inking.specs.Styles.{outline_shapes};
 
 use crate::pen::Pen;
 use crate::stroke::paint_along_parts;
@@ -23,12 +22,12 @@ pub fn paint_outline(
     requires width { canvas.old.width ≡ scene.now.view.width }
     requires height { canvas.old.height ≡ scene.now.view.height }
     ensures { OnOk result (IsPainted canvas.old canvas.new
-        (strokes (line_of (points_of scene.now.view rings.now) true style.now.width) style.now.outline)) }
+        (outline_shapes scene.now.view.factor (points_of scene.now.view rings.now) style.now)) }
 {
     let style = style.get();
     let Some(colour) = style.outline else {
         return Ok(());
     };
-    let pen = Pen::new(canvas, scene, style.width, colour);
+    let pen = Pen::of_map(canvas, scene, style.width, colour);
     paint_along_parts(canvas, &pen, rings, true)
 }

@@ -1,5 +1,5 @@
-ghost use Rattle.std.specs.Prelude.{◌≡◌, ◌≤◌, ◌&&◌, true, int_le};
-ghost use Rattle.mapdefs.specs.declared.limits.TheConstants.{MAX_LINE_WIDTH};
+ghost use Rattle.std.specs.Prelude.{◌≡◌, ◌≤◌, ◌*◌, ◌&&◌, true, int_le};
+ghost use Rattle.mapdefs.specs.declared.limits.TheConstants.{MAX_FINE_WIDTH, MAX_LINE_WIDTH};
 ghost use Rattle.viewport.specs.View.{device_point};
 ghost use Rattle.inking.specs.Stroked.{IsQuiet, has_box, has_place};
 
@@ -34,10 +34,10 @@ impl<'a> Model for Pen<'a> {
 }
 
 impl<'a> Pen<'a> {
-    /// The pen of a width, 1 to `MAX_LINE_WIDTH`, and a colour, on the picture of a scene. The canvas keeps its window.
+    /// The pen of a width, 1 to `MAX_FINE_WIDTH` pixels of the picture, and a colour, on the picture of a scene. The canvas keeps its window.
     pub fn new(canvas: &mut Canvas, scene: &'a Scene<'_>, width: u8, colour: Rgb) -> Self
         requires some { 1 ≤ width }
-        requires most { width ≤ MAX_LINE_WIDTH }
+        requires most { width ≤ MAX_FINE_WIDTH }
         ensures same { canvas.new ≡ canvas.old }
         ensures value { result ≡ record { view = scene.now.view; width = width; colour = colour } }
     {
@@ -51,6 +51,17 @@ impl<'a> Pen<'a> {
         }
     }
 
+    /// The pen of so many pixels of the map, 1 to `MAX_LINE_WIDTH`, and a colour.
+    pub fn of_map(canvas: &mut Canvas, scene: &'a Scene<'_>, width: u8, colour: Rgb) -> Self
+        requires some { 1 ≤ width }
+        requires most { width ≤ MAX_LINE_WIDTH }
+        ensures same { canvas.new ≡ canvas.old }
+        ensures value { result ≡ record { view = scene.now.view; width = scene.now.view.factor * width; colour = colour } }
+    {
+        let width = scene.factor().fine(u16::from(width)) as u8;
+        Pen::new(canvas, scene, width, colour)
+    }
+
     /// The projection of the line's places.
     pub fn projection(&self) -> &Projection
         ensures { result.now ≡ self.now.view }
@@ -62,7 +73,7 @@ impl<'a> Pen<'a> {
     pub fn width(&self) -> u8
         ensures value { result ≡ self.now.width }
         ensures some { 1 ≤ result }
-        ensures most { result ≤ MAX_LINE_WIDTH }
+        ensures most { result ≤ MAX_FINE_WIDTH }
     {
         self.width
     }

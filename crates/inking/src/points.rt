@@ -1,6 +1,6 @@
 ghost use Rattle.std.specs.Prelude.{◌≡◌, ◌≤◌};
 ghost use Rattle.std.specs.List.{flat_map};
-ghost use Rattle.mapdefs.specs.declared.limits.TheConstants.{MAX_SQUARE};
+ghost use Rattle.mapdefs.specs.declared.limits.TheConstants.{MAX_FINE_SQUARE};
 ghost use Rattle.canvas.specs.Shapes.{marks, stamps};
 ghost use Rattle.inking.specs.Styles.{point_shapes};
 ghost use Rattle.canvas.specs.Painted.{IsPainted};
@@ -53,7 +53,7 @@ fn paint_point(canvas: &mut Canvas, scene: &Scene<'_>, place: World, style: &Sty
                 stamp(canvas, pixel, symbol);
             }
         }
-        None => mark(canvas, pixel, style.size, style.colour),
+        None => mark(canvas, pixel, scene.factor().fine(style.size), style.colour),
     }
 }
 
@@ -72,7 +72,7 @@ fn stamp(canvas: &mut Canvas, pixel: Pixel, symbol: &Symbol)
 // Paints the square of a size round a pixel, where there is a colour.
 fn mark(canvas: &mut Canvas, pixel: Pixel, size: u16, colour: Option<Rgb>)
     requires some { 1 ≤ size }
-    requires most { size ≤ MAX_SQUARE }
+    requires most { size ≤ MAX_FINE_SQUARE }
     ensures { IsPainted canvas.old canvas.new (marks (record { pixel = pixel; size = size }) colour) }
 {
     if let Some(colour) = colour {

@@ -1,6 +1,6 @@
 ghost use Rattle.std.specs.Prelude.{◌≡◌, ◌≤◌, ◌*◌, ◌^◌, true, map, pos, IfOk, OnOk, Some};
 ghost use Rattle.geom.specs.Range.{IsBelow};
-ghost use Rattle.mapdefs.specs.declared.limits.TheConstants.{MAX_LINE_WIDTH};
+ghost use Rattle.mapdefs.specs.declared.limits.TheConstants.{MAX_FINE_WIDTH};
 ghost use Rattle.strokes.specs.Round as round;
 ghost use Rattle.strokes.specs.Round.{round_line};
 ghost use Rattle.strokes.specs.Strip.{is_small_point};
@@ -37,7 +37,7 @@ impl<'a> Model for RoundPen<'a> {
 }
 
 impl<'a> RoundPen<'a> {
-    /// The pen of a width, 1 to four times `MAX_LINE_WIDTH`, and a colour, on the picture of a projection. It takes memory for
+    /// The pen of a width, 1 to `MAX_FINE_WIDTH`, and a colour, on the picture of a projection. It takes memory for
     /// the chords: a caller makes one pen for all lines of a style.
     pub fn new(
         alloc: Global,
@@ -46,7 +46,7 @@ impl<'a> RoundPen<'a> {
         colour: Rgb,
     ) -> Result<Self, AllocError>
         requires some { 1 ≤ width }
-        requires most { width ≤ 4 * MAX_LINE_WIDTH }
+        requires most { width ≤ MAX_FINE_WIDTH }
         ensures { IfOk result (λ pen. pen ≡ record { view = projection.now; width = width; colour = colour }) }
     {
         let chords = Chords::new(alloc, width)?;

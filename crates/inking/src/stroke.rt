@@ -1,7 +1,7 @@
 ghost use Rattle.std.specs.Prelude.{◌≡◌, ◌≤◌, true, map, pos, OnOk, IfOk, Some};
 ghost use Rattle.strokes.specs.Segment.{covers_segment};
 ghost use Rattle.geom.specs.Device.{pixel_centre};
-ghost use Rattle.mapdefs.specs.declared.limits.TheConstants.{MAX_LINE_WIDTH};
+ghost use Rattle.mapdefs.specs.declared.limits.TheConstants.{MAX_FINE_WIDTH};
 ghost use Rattle.strokes.specs.Strip.{is_small};
 ghost use Rattle.strokes.specs.Line.{line_of};
 ghost use Rattle.strokes.specs.Line as line;
@@ -274,7 +274,7 @@ fn paint_segment(
 // Gives the colour to the pixels of a small segment: row by row if it is steep, else column by column.
 fn fill_segment(canvas: &mut Canvas, edge: Edge, width: u8, colour: Rgb)
     requires some { 1 ≤ width }
-    requires most { width ≤ MAX_LINE_WIDTH }
+    requires most { width ≤ MAX_FINE_WIDTH }
     requires small { is_small edge ≡ true }
     ensures { IsFilled (λ i j. covers_segment width edge (pixel_centre (pos i) (pos j))) (λ i j. Some colour) canvas.old canvas.new }
 {

@@ -4,18 +4,26 @@ ghost use Rattle.geom.specs.Range.{IsBelow};
 ghost use Rattle.labelcache.specs.Candidate.{IsAnchor};
 
 use bdffont::is_short;
-use geom::{PictureSide, Pixel};
+use geom::{Factor, PictureSide, Pixel};
 use labelcache::{Cache, Candidate, MAX_SIDE, Placed};
 use mapdefs::{Font, Label, LabelFields, Position, Rgb};
 use std::alloc::{AllocError, Global};
 
-/// A candidate as a test has it, with a label of its own.
+/// A candidate as a test has it, with a label of its own, where a pixel of the map is so many pixels.
 #[derive(Drop)]
 pub(crate) struct Entry {
     pub(crate) text: &'static str,
     pub(crate) i: i64,
     pub(crate) j: i64,
     pub(crate) label: Label,
+    pub(crate) factor: Factor,
+}
+
+impl Entry {
+    /// So many pixels of the map, in pixels.
+    pub(crate) fn fine(&self, pixels: i64) -> i64 {
+        i64::from(self.factor.times()).wrapping_mul(pixels)
+    }
 }
 
 /// The defaults of a label, in the middle round its anchor.
@@ -79,12 +87,12 @@ fn add_one<'a>(
     cache: &mut Cache<'a>,
     text: &'a str,
     at: Pixel,
-    label: &'a Label,
+    entry: &'a Entry,
 ) -> Result<(), AllocError>
     requires at { IsAnchor at }
 {
     if is_short(text) {
-        cache.add(Candidate::new(text, at, label.get()))?;
+        cache.add(Candidate::new(text, at, entry.label.get(), entry.factor))?;
     }
     Ok(())
 }
@@ -96,7 +104,7 @@ pub(crate) fn add_all<'a>(cache: &mut Cache<'a>, entries: &'a [Entry]) -> Result
             cache,
             entry.text,
             anchor(within(entry.i), within(entry.j)),
-            &entry.label,
+            entry,
         )?;
     }
     Ok(())

@@ -1,7 +1,7 @@
 use crate::entries::{Entry, label_of, placed_of, plain_label, side};
 use crate::fonts::font_of;
 use bdffont::{extent, is_short};
-use geom::{PictureSide, PxBox};
+use geom::{Factor, PictureSide, PxBox};
 use labelcache::Placed;
 use mapdefs::{Font, LabelFields, Position};
 use std::alloc::{AllocError, Global};
@@ -81,7 +81,7 @@ fn squared_distance(a: &Entry, b: &Entry) -> i64 {
 
 // Whether an entry keeps its distance to a label, if that has the same text.
 fn is_apart(entries: &[Entry], entry: &Entry, label: &PlainLabel) -> bool {
-    let distance = i64::from(entry.label.get().mindistance);
+    let distance = entry.fine(i64::from(entry.label.get().mindistance));
     match entries.get(label.number) {
         Some(other) => {
             other.text != entry.text
@@ -123,7 +123,7 @@ fn label_at(ground: &Ground<'_>, entry: &Entry, number: usize, position: Positio
     );
     let label = entry.label.get();
     let outline = if label.outline.is_some() { 1 } else { 0 };
-    let grown = i64::from(label.buffer).wrapping_add(outline);
+    let grown = entry.fine(i64::from(label.buffer)).wrapping_add(outline);
     PlainLabel {
         number,
         left,
@@ -289,6 +289,7 @@ fn next_entry(state: &mut u64, text: Option<&'static str>) -> Entry {
         i: if is_same { 5 } else { i.wrapping_sub(15) },
         j: if is_same { 5 } else { j.wrapping_sub(15) },
         label: label_of(next_label(state)),
+        factor: Factor::of(if is_one_of(state, 3) { 2 } else { 1 }),
     }
 }
 

@@ -1,6 +1,7 @@
 use crate::entries::{Entry, label_of, page_side, placed_of, plain_label};
 use crate::fonts::font_of;
 use crate::labelled_maps::colour_of;
+use geom::Factor;
 use labelcache::Placed;
 use mapdefs::{LabelFields, Position, Rgb};
 use std::alloc::{AllocError, Global};
@@ -59,21 +60,27 @@ fn text_of(code: &str) -> Option<&'static str> {
     }
 }
 
-// A candidate as its text, the column and the row of its anchor, and the codes of its label.
+// A candidate as its text, the column and the row of its anchor, and the codes of its label, with a factor as `f2`.
 fn entry(row: &str) -> Option<Entry> {
     let mut codes = row.split(' ');
     let text = text_of(codes.next()?)?;
     let i = codes.next()?.parse::<i64>().ok()?;
     let j = codes.next()?.parse::<i64>().ok()?;
     let mut fields = plain_label();
+    let mut factor = Factor::of(1);
     for code in codes {
-        set(&mut fields, code);
+        if let Some(times) = code.strip_prefix('f') {
+            factor = Factor::new(times.parse::<u8>().ok()?)?;
+        } else {
+            set(&mut fields, code);
+        }
     }
     Some(Entry {
         text,
         i,
         j,
         label: label_of(fields),
+        factor,
     })
 }
 
@@ -180,6 +187,11 @@ const PLACED: &str = "\
 0@13,21:13,21-20,26 =uneven 40|AB 20 20 LL
 0@17,21:17,21-24,26 =uneven 40|AB 20 20 LC
 0@21,21:21,21-28,26 =uneven 40|AB 20 20 LR
+# a buffer and a distance are those of the map, and an outline is a pixel wide
+0@19,19:13,13-28,27 =tiny 40|A 20 20 b2 f3
+0@19,19:14,14-27,26 =tiny 40|A 20 20 b1 o f4
+1@21,19:21,19-24,21 0@9,19:9,19-12,21 =tiny 40|A 10 20 d4 f3;A 22 20
+1@21,19:21,19-24,21 =tiny 40|A 10 20 d4 f4;A 22 20
 # in the last corner of the largest picture, and a pixel too far right or down
 0@8189,8190:8189,8190-8192,8192 =tiny 8192|A 8190 8191
 =tiny 8192|A 8191 8191
@@ -187,7 +199,7 @@ const PLACED: &str = "\
 
 #[test]
 fn labels_stand_at_worked_corners(rt: HostRuntime) -> Result<(), TableFault> {
-    check_rows(rt.alloc(), PLACED, '=', 46, result_of_row)
+    check_rows(rt.alloc(), PLACED, '=', 50, result_of_row)
 }
 
 // The result for the first candidate of a row: the corner of its text, or `-`.

@@ -11,7 +11,7 @@ use Rattle.std.specs.Str.{bytes_eq}
 use Rattle.geom.specs.Device.{PixelValue}
 use Rattle.mapdefs.proofs.Containing.{any-weaker}
 use Rattle.labelcache.specs.Anchors.{IsTooNear, IsAnchorNear, anchors_with}
-use Rattle.labelcache.specs.Candidate.{CandidateValue, square, squared_distance}
+use Rattle.labelcache.specs.Candidate.{CandidateValue, square, squared_distance, distance_of}
 
 -- what is tested for those that pass a filter
 filtered-step : {X Y : Type 0} (b : Bool) (p : Y → Bool) (f : X → Y) (x : X) (ys : List X) (r : Bool) →
@@ -27,34 +27,34 @@ any-filtered test f p (x ∷ xs) =
 
 -- the test that another candidate is near
 near-tested : (c other : CandidateValue) → IsTooNear c other →
-    (bytes_eq other.text c.text && nat_lt (squared_distance c.anchor other.anchor) (square c.label.mindistance)) ≡ true
+    (bytes_eq other.text c.text && nat_lt (squared_distance c.anchor other.anchor) (square (distance_of c))) ≡ true
 near-tested c other near = search (rules, bytes_eq-Decides, near.text, near.near)
 
 tested-near : (c other : CandidateValue) →
-    (bytes_eq other.text c.text && nat_lt (squared_distance c.anchor other.anchor) (square c.label.mindistance)) ≡ true → IsTooNear c other
+    (bytes_eq other.text c.text && nat_lt (squared_distance c.anchor other.anchor) (square (distance_of c))) ≡ true → IsTooNear c other
 tested-near c other h = record { text = search (rules, bytes_eq-Decides, h); near = search (rules, h) }
 
 -- a candidate is near exactly where an anchor of its text is
 pub near-place : (c : CandidateValue) (placed : List CandidateValue) → Any (IsTooNear c) placed →
-    Any (IsAnchorNear c.anchor c.label.mindistance) (anchors_with c.text placed)
+    Any (IsAnchorNear c.anchor (distance_of c)) (anchors_with c.text placed)
 near-place c placed a =
     let test = λ (other : CandidateValue). bytes_eq other.text c.text in
     let anchor = λ (other : CandidateValue). other.anchor in
-    let p = λ (place : PixelValue). nat_lt (squared_distance c.anchor place) (square c.label.mindistance) in
+    let p = λ (place : PixelValue). nat_lt (squared_distance c.anchor place) (square (distance_of c)) in
     let both = list_any-from_Any (λ (other : CandidateValue). test other && p (anchor other)) placed
     (any-weaker (IsTooNear c) (λ other. (test other && p (anchor other)) ≡ true) placed (near-tested c) a) in
-    any-weaker (λ place. p place ≡ true) (IsAnchorNear c.anchor c.label.mindistance) (anchors_with c.text placed)
+    any-weaker (λ place. p place ≡ true) (IsAnchorNear c.anchor (distance_of c)) (anchors_with c.text placed)
     (λ place e. search (rules, e))
     (Any-from_list_any p (anchors_with c.text placed) (any-filtered test anchor p placed ∙ both))
 
-pub place-near : (c : CandidateValue) (placed : List CandidateValue) → Any (IsAnchorNear c.anchor c.label.mindistance) (anchors_with c.text placed) →
+pub place-near : (c : CandidateValue) (placed : List CandidateValue) → Any (IsAnchorNear c.anchor (distance_of c)) (anchors_with c.text placed) →
     Any (IsTooNear c) placed
 place-near c placed a =
     let test = λ (other : CandidateValue). bytes_eq other.text c.text in
     let anchor = λ (other : CandidateValue). other.anchor in
-    let p = λ (place : PixelValue). nat_lt (squared_distance c.anchor place) (square c.label.mindistance) in
+    let p = λ (place : PixelValue). nat_lt (squared_distance c.anchor place) (square (distance_of c)) in
     let one = list_any-from_Any p (anchors_with c.text placed)
-    (any-weaker (IsAnchorNear c.anchor c.label.mindistance) (λ place. p place ≡ true) (anchors_with c.text placed) (λ place lt. search (rules, lt)) a) in
+    (any-weaker (IsAnchorNear c.anchor (distance_of c)) (λ place. p place ≡ true) (anchors_with c.text placed) (λ place lt. search (rules, lt)) a) in
     any-weaker (λ other. (test other && p (anchor other)) ≡ true) (IsTooNear c) placed (tested-near c)
     (Any-from_list_any (λ (other : CandidateValue). test other && p (anchor other)) placed (sym (any-filtered test anchor p placed) ∙ one))
 

@@ -10,7 +10,7 @@ use Rattle.std.specs.List.{All, AllZip, slice_get}
 use Rattle.geom.specs.Device.{PixelValue}
 use Rattle.labelcache.specs.declared.cache.Placed.{Placed}
 use Rattle.labelcache.specs.Anchors.{IsTooNear}
-use Rattle.labelcache.specs.Candidate.{CandidateValue, IsTriedBefore, AreWithinPriorities, priority_of, square, squared_distance}
+use Rattle.labelcache.specs.Candidate.{CandidateValue, IsTriedBefore, AreWithinPriorities, priority_of, square, squared_distance, distance_of}
 use Rattle.labelcache.specs.LabelBox.{corners, taken_at}
 use Rattle.labelcache.specs.Placement.{Setting, IsApart, IsClear, Passes, IsFirst, Stands, HasNone, IsShutOut, IsPlacement}
 use Rattle.labelcache.specs.Placing.{PlacingValue, IsFar, Fits, FitsNowhere, Adds, Tries, IsReached, IsPlacedTo}
@@ -36,7 +36,7 @@ far-apart cs c (l ∷ ls) [] z f = absurd z
 far-apart cs c (l ∷ ls) (o ∷ os) z f =
     let here : IsApart cs c l = λ other is text.
     let e : other ≡ o = same_Some other o (sym is ∙ z.0) in
-    not-less (squared_distance c.anchor other.anchor) (square c.label.mindistance)
+    not-less (squared_distance c.anchor other.anchor) (square (distance_of c))
     (λ near. All-head (λ other. IsTooNear c other → ⊥) o os f (rw (← e) (record { text = text; near = near }))) in
     All-cons (IsApart cs c) l ls here (far-apart cs c ls os z.1 (All-tail (λ other. IsTooNear c other → ⊥) o os f))
 
@@ -47,7 +47,7 @@ apart-far cs c [] (o ∷ os) z a = absurd z
 apart-far cs c (l ∷ ls) [] z a = absurd z
 apart-far cs c (l ∷ ls) (o ∷ os) z a =
     All-cons (λ other. IsTooNear c other → ⊥) o os
-    (λ near. not-both (squared_distance c.anchor o.anchor) (square c.label.mindistance) near.near (All-head (IsApart cs c) l ls a o z.0 near.text))
+    (λ near. not-both (squared_distance c.anchor o.anchor) (square (distance_of c)) near.near (All-head (IsApart cs c) l ls a o z.0 near.text))
     (apart-far cs c ls os z.1 (All-tail (IsApart cs c) l ls a))
 
 -- one more label, with its candidate

@@ -6,7 +6,7 @@ use Rattle.geom.specs.Device.{PixelValue}
 use Rattle.geom.specs.PxBox.{PixelBoxValue, HasPixel, Meets, IsInside}
 use Rattle.mapdefs.specs.declared.font.FontFields.{FontFields}
 use Rattle.labelcache.specs.declared.cache.Placed.{Placed}
-use Rattle.labelcache.specs.Candidate.{CandidateValue, IsTriedBefore, square, squared_distance}
+use Rattle.labelcache.specs.Candidate.{CandidateValue, IsTriedBefore, distance_of, square, squared_distance}
 use Rattle.labelcache.specs.LabelBox.{corners, taken_at}
 
 -- what labels are placed on: a picture of that width and height, and the font of its texts
@@ -35,7 +35,7 @@ IsClear taken label = Meets taken label.taken → ⊥
 -- a label has another text than the candidate, or an anchor that is at least the candidate's distance away
 abbrev pub IsApart : List CandidateValue → CandidateValue → Placed → Type 0
 IsApart candidates c label = (other : CandidateValue) → slice_get candidates label.number ≡ Some other → other.text ≡ c.text →
-    square c.label.mindistance ≤ squared_distance c.anchor other.anchor
+    square (distance_of c) ≤ squared_distance c.anchor other.anchor
 
 -- a candidate's text may have its corner at a pixel, by its label's tests against the labels that are tried before it:
 -- without PARTIALS its box lies in the picture, and without FORCE it is clear of those labels and far enough from them

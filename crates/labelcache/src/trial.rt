@@ -1,5 +1,5 @@
 ghost use Rattle.std.specs.Prelude.{◌≡◌, ◌↔◌, false, map, All, IsTrue, IfSome, IfNone, OnOk};
-ghost use Rattle.geom.specs.PxBox.{IsInside, IsUpTo};
+ghost use Rattle.geom.specs.PxBox.{IsInside};
 ghost use Rattle.labelcache.specs.Candidate.{IsTextCorner};
 ghost use Rattle.labelcache.specs.LabelBox.{corner_at, positions, size_of, taken_at};
 ghost use Rattle.labelcache.specs.Placement.{IsClear};
@@ -29,30 +29,15 @@ fn fit_at(page: &Page<'_>, candidate: &Candidate<'_>, size: TextSize, position: 
     ensures taken { result.taken ≡ taken_at page.now.font candidate.now result.at }
 {
     let at = corner_at(candidate.anchor(), size, position);
-    let taken = taken_at(at, size, candidate.label());
+    let taken = taken_at(at, size, candidate);
     Fit { at, taken }
-}
-
-// Whether a box's first column or row and the one after its last lie on a side of so many, ends included.
-fn is_within(start: i64, end: i64, side: u16) -> bool
-    ensures { IsTrue result ↔ (IsUpTo side start × IsUpTo side end) }
-{
-    let side = i64::from(side);
-    0 <= start && start <= side && 0 <= end && end <= side
-}
-
-// Whether all four sides of a box lie within a picture of that width and height, ends included.
-fn is_inside(taken: PxBox, width: u16, height: u16) -> bool
-    ensures { IsTrue result ↔ IsInside taken width height }
-{
-    is_within(taken.left(), taken.right(), width) && is_within(taken.top(), taken.bottom(), height)
 }
 
 // Whether a box lies in the picture, or the label may be cut at its border.
 fn is_shown(page: &Page<'_>, label: &LabelFields, taken: PxBox) -> bool
     ensures { IsTrue result ↔ (label.now.partials ≡ false → IsInside taken page.now.width page.now.height) }
 {
-    label.partials || is_inside(taken, page.width(), page.height())
+    label.partials || taken.inside(page.width(), page.height())
 }
 
 // Whether a box is clear of the labels so far, or the label is forced.

@@ -95,6 +95,7 @@ impl Duplicate for Map {
             extent: fields.extent,
             png: fields.png,
             mercator: fields.mercator,
+            smoothing: fields.smoothing,
             font: fields.font.duplicate(alloc)?,
             symbols: fields.symbols.duplicate(alloc)?,
             layers: fields.layers.duplicate(alloc)?,

@@ -31,6 +31,12 @@ pub const MAX_LINE_WIDTH: u8 = 32;
 /// The greatest side of the square at a point, in pixels.
 pub const MAX_SQUARE: u16 = 256;
 
+/// The greatest width of a line on a fine picture, in its pixels: `geom::MAX_FACTOR` times `MAX_LINE_WIDTH`.
+pub const MAX_FINE_WIDTH: u8 = 128;
+
+/// The greatest side of a square there: `geom::MAX_FACTOR` times `MAX_SQUARE`.
+pub const MAX_FINE_SQUARE: u16 = 1_024;
+
 /// The greatest side of a symbol, in pixels.
 pub const MAX_SYMBOL_SIDE: u16 = 256;
 

@@ -4,7 +4,7 @@ ghost use Rattle.mapdefs.specs.declared.limits.TheConstants.{MAX_FEATURES};
 
 use crate::layer::{append_at, clear_at, switch_at};
 use crate::{Feature, Font, Items, Layer, Limited, Limits, Shared, SharedItems, Symbol, Text};
-use geom::WorldBox;
+use geom::{Factor, WorldBox};
 use std::alloc::{AllocError, Global};
 
 /// What a map says.
@@ -20,6 +20,8 @@ pub struct MapFields {
     pub png: bool,
     /// Whether the service offers pictures in web mercator.
     pub mercator: bool,
+    /// How many times as fine as the map's pictures those are of which they are the means.
+    pub smoothing: Factor,
     /// The font of the labels.
     pub font: Option<Shared<Font>>,
     pub symbols: SharedItems<Symbol>,

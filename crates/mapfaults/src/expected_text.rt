@@ -22,6 +22,7 @@ fn plain_text(expected: Expected) -> &'static str {
         Expected::Formats =>
             "image/png, image/x-portable-pixmap and image/x-portable-arbitrarymap, with spaces between them",
         Expected::Systems => "EPSG:3857 alone",
+        Expected::Smoothing => "1, 2, 3 or 4",
         // Texts, settings, and what has no effect.
         _ => "a word or a quoted text",
     }

@@ -6,6 +6,7 @@ const READ: &str = "\
 0 0 0 0 0:MAP EXTENT 1 2 3 4 EXTENT -1000 -1000 1000 1000 CONFIG a b CONFIG 'labelfont' c CONFIG END2 'END' END
 0 0 0 0 0:MAP CONFIG WMS_FORMATS '' CONFIG 'WMS_FORMATS' ' image/png  image/x-portable-pixmap image/x-portable-arbitrarymap ' CONFIG WMS_CRS EPSG:3857 CONFIG WMS_CRS '  ' END
 0 0 0 0 0:MAP CONFIG wms_formats image/gif CONFIG WMS_FORMAT image/gif CONFIG wms_crs EPSG:1 WEB METADATA WMS_CRS a WMS_FORMATS b END END END
+0 0 0 0 0:MAP CONFIG 'WMS_SMOOTHING' 1 CONFIG WMS_SMOOTHING '4' CONFIG wms_smoothing 5 CONFIG WMS_SMOOTH 0 END
 0 0 0 0 0:MAP WEB EMPTY e ERROR f FOOTER g HEADER h IMAGEPATH i IMAGEURL j LOG k END END
 0 0 0 0 0:MAP WEB MAXSCALEDENOM l MINSCALEDENOM 'm' TEMPLATE n END WEB END END
 0 0 0 0 0:MAP WEB METADATA a b 'END' c wms_title 'END' END VALIDATION a b END METADATA END END END
@@ -42,6 +43,13 @@ const READ: &str = "\
 2 WrongValue:MAP CONFIG WMS_CRS|'EPSG:3857 EPSG:4326'
 2 WrongValue:MAP CONFIG WMS_CRS|epsg:3857
 2 MissingValue:MAP CONFIG WMS_CRS|END
+2 WrongValue:MAP CONFIG WMS_SMOOTHING|0
+2 WrongValue:MAP CONFIG WMS_SMOOTHING|5 CONFIG WMS_SMOOTHING 2 END
+2 WrongValue:MAP CONFIG WMS_SMOOTHING|'2.0'
+2 WrongValue:MAP CONFIG WMS_SMOOTHING|' 2'
+2 WrongValue:MAP CONFIG WMS_SMOOTHING|''
+2 WrongValue:MAP CONFIG WMS_SMOOTHING|(2)
+2 MissingValue:MAP CONFIG WMS_SMOOTHING|END
 2 WrongValue:MAP CONFIG a|(b)
 2 MissingValue:MAP CONFIG a|END
 # Faults of keys and values.
@@ -73,5 +81,5 @@ const READ: &str = "\
 
 #[test]
 fn keywords_of_webs_and_labels_are_read(rt: HostRuntime) -> Result<(), TableFault> {
-    check_rows(rt.alloc(), READ, ':', 64, result_of_row)
+    check_rows(rt.alloc(), READ, ':', 72, result_of_row)
 }

@@ -65,6 +65,7 @@ sound|MAP END
 2: image/gif is no value of CONFIG, which takes image/png, image/x-portable-pixmap and image/x-portable-arbitrarymap, with spaces between them|MAP CONFIG WMS_FORMATS~image/gif
 2: EPSG:25832 is no value of CONFIG, which takes EPSG:3857 alone|MAP CONFIG WMS_CRS~EPSG:25832
 2: CONFIG has no value|MAP CONFIG WMS_CRS~END
+2: 5 is no value of CONFIG, which takes 1, 2, 3 or 4|MAP CONFIG WMS_SMOOTHING~5
 2: the mapfile ends inside LAYER of line 2, which has no END|MAP~LAYER NAME a
 3: the mapfile ends inside LAYER of line 2, which has no END|MAP~LAYER~NAME
 7: the mapfile ends inside LABEL of line 5, which has no END|MAP~LAYER CLASS~style end~STYLE END~LABEL~COLOR 1 2~
@@ -127,7 +128,7 @@ sound|MAP END
 
 #[test]
 fn faults_are_explained(rt: HostRuntime) -> Result<(), TableFault> {
-    check_rows(rt.alloc(), ROWS, '|', 97, explanation_of_row)
+    check_rows(rt.alloc(), ROWS, '|', 98, explanation_of_row)
 }
 
 // The result for sources with a block, a vertex or an item more than a map may have.

@@ -198,6 +198,30 @@ fn maps_offer_what_their_last_configs_say(rt: HostRuntime) -> Result<(), TableFa
     check_rows(rt.alloc(), OFFERS, '~', 7, offers_of_map)
 }
 
+// How many times as fine the pictures are of which a map's pictures are the means, and what stands in its MAP.
+const SMOOTHINGS: &str = "\
+1~NAME a
+1~CONFIG WMS_SMOOTHING 1
+2~CONFIG 'WMS_SMOOTHING' 2
+3~CONFIG WMS_SMOOTHING '3'
+4~CONFIG WMS_SMOOTHING 2 CONFIG WMS_SMOOTHING 4
+1~CONFIG WMS_SMOOTHING 3 CONFIG WMS_SMOOTHING 1
+1~CONFIG wms_smoothing 3 WEB METADATA WMS_SMOOTHING 2 END END";
+
+// The smoothing of the map of a MAP.
+fn smoothing_of_map(alloc: Global, keywords: &str) -> Result<String, AllocError> {
+    let source = format!(in alloc; "MAP {keywords} END")?;
+    match parse(alloc, source.as_bytes(), &Files::new(alloc)) {
+        Ok(map) => format!(in alloc; "{}", map.get().smoothing.times()),
+        Err(fault) => fault_text(alloc, fault),
+    }
+}
+
+#[test]
+fn maps_are_as_smooth_as_their_last_config_says(rt: HostRuntime) -> Result<(), TableFault> {
+    check_rows(rt.alloc(), SMOOTHINGS, '~', 7, smoothing_of_map)
+}
+
 // A mapfile in pieces. A row is the result where the source ends within a token of the piece, the result
 // where it ends after a blank or with the piece, the text before the piece, and the piece. `|` stands for
 // the end of a line. A piece without an end within a token has the same twice.

@@ -1,13 +1,14 @@
 -- Machines that published equal lists of batches are in one state, and a state has one answer to a query.
-use Rattle.std.proofs.Common.{◌≡◌, ◌∙◌, ℕ, Bool, true, false, if◌then◌else◌, List, [], ◌∷◌, length, Option, None, Some, Result, Ok, Err, option_and_then, slice_get, refl, sym, ap, subst}
+use Rattle.std.proofs.Common.{◌≡◌, ◌∙◌, ◌≤◌, ◌&&◌, ℕ, arith, Bool, true, false, if◌then◌else◌, List, [], ◌∷◌, length, Option, None, Some, Result, Ok, Err, option_and_then, slice_get, refl, sym, ap, subst}
+use Rattle.std.proofs.lemmas.Bool.{leb-true}
 use Rattle.std.specs.List.{AllZip}
 use Rattle.batches.specs.Batch.{State, accepted}
-use Rattle.compose.specs.Picture.{HasOnePicture}
+use Rattle.compose.specs.Smooth.{HasOneSmoothPicture}
 use Rattle.featureinfo.specs.Hits.{AreHits, HasOneHitList}
 use Rattle.featureinfo.specs.declared.layer_hits.LayerHits.{LayerHits}
 use Rattle.mapdefs.specs.declared.layer.LayerFields.{LayerFields}
 use Rattle.mapdefs.specs.declared.map.MapFields.{MapFields}
-use Rattle.mapdefs.specs.declared.picture.PictureFields.{PictureFields}
+use Rattle.mapdefs.specs.declared.smooth_picture.SmoothFields.{SmoothFields}
 use Rattle.operations.specs.declared.mime.Mime.TheVariants as mime
 use Rattle.wmsquery.specs.Meaning.{IsMeaning, MeaningIsOne}
 use Rattle.wmsquery.specs.Pairs.{given, names_of, pairs_of, texts_of}
@@ -21,10 +22,13 @@ use Rattle.wmsquery.specs.declared.fault.WmsFault.{WmsFault}
 use Rattle.wmsquery.specs.declared.request.Format.{Format}
 use Rattle.wmsquery.specs.declared.request.Format.TheVariants as format
 use Rattle.wmsquery.specs.declared.request.InformationRequest.{InformationRequest}
+use Rattle.wmsquery.specs.declared.request.MapRequest.{MapRequest}
 use Rattle.wmsquery.specs.declared.request.Request.{Request}
+use Rattle.viewport.specs.View.{fine_view}
+use Rattle.std.specs.Prelude.{int_le, nat_le, pos, unwrap_or, ◌-ℤ◌}
 use Rattle.wmsquery.specs.declared.request.Request.TheVariants as request
 use Rattle.featureinfo.specs.Answer as featureinfo
-use Rattle.mapmachine.specs.Machine.{Answers, AreAskedHits, IsAnswer, Runs, scene_of, view_of, scale_of, IsWrittenPicture}
+use Rattle.mapmachine.specs.Machine.{Answers, fine_of, AreAskedHits, IsAnswer, Runs, scene_of, view_of, scale_of, IsWrittenPicture}
 use Rattle.mapmachine.specs.Replicas.{AreAlike, equal_answers, equal_pictures, ReplicasAnswerAlike, published_batches}
 use Rattle.answers.specs.declared.answer.Answer.{Answer}
 use Rattle.mapmachine.specs.declared.reply.Event.{Event}
@@ -141,30 +145,40 @@ equal-alike : (a b : Answer) → a ≡ b → AreAlike a b
 equal-alike a b e = rw (← e) (equal_answers a)
 
 -- two answers with one picture in a format are alike
-pictures-alike : (f : Format) (picture : PictureFields) (a b : Answer) → IsWrittenPicture f picture a → IsWrittenPicture f picture b → AreAlike a b
+pictures-alike : (f : Format) (picture : SmoothFields) (a b : Answer) → IsWrittenPicture f picture a → IsWrittenPicture f picture b → AreAlike a b
 pictures-alike format.Png picture a b is are = equal_pictures picture a b is are
 pictures-alike format.Pixmap picture a b is are = equal-alike a b (is ∙ sym are)
 pictures-alike format.ArbitraryMap picture a b is are = equal-alike a b (is ∙ sym are)
 
+-- a pixel of the request is a pixel of the picture that is drawn, or more
+some-factor : (map : MapFields) (r : MapRequest) → 1 ≤ (fine_of map r).factor
+some-factor map r = go (nat_le 1 map.smoothing) refl (int_le (pos map.smoothing) (r.area.maxx -ℤ r.area.minx) && int_le (pos map.smoothing) (r.area.maxy -ℤ r.area.miny))
+  where
+    go : (some : Bool) → nat_le 1 map.smoothing ≡ some → (coarse : Bool) →
+        1 ≤ (unwrap_or (if (some && true) && coarse then Some (fine_view (view_of r) map.smoothing) else None) (view_of r)).factor
+    go false h coarse = omega arith
+    go true h false = omega arith
+    go true h true = leb-true 1 map.smoothing h
+
 -- two answers to what a query means are alike
-one-to : HasOnePicture → HasOneHitList → (state : State) (query : List ℕ) (meaning : Result Request WmsFault) (a b : Answer) → IsMeaning state.map state.sequence query meaning →
+one-to : HasOneSmoothPicture → HasOneHitList → (state : State) (query : List ℕ) (meaning : Result Request WmsFault) (a b : Answer) → IsMeaning state.map state.sequence query meaning →
     Answers state meaning a → Answers state meaning b → AreAlike a b
 one-to picture hits state query (Err fault) a b meant e f = equal-alike a b (e ∙ sym f)
 one-to picture hits state query (Ok request.Capabilities) a b meant e f = equal-alike a b (e ∙ sym f)
 one-to picture hits state query (Ok (request.Map r)) a b meant (p, is, e) (q, are, f) =
-    let one : q ≡ p = sym (picture state.map (view_of r) (scale_of (view_of r)) r.chosen r.background p q is are) in
-    pictures-alike r.format p a b e (subst (λ (shown : PictureFields). IsWrittenPicture r.format shown b) one f)
+    let one : q ≡ p = sym (picture state.map (fine_of state.map r) (scale_of (view_of r)) r.chosen r.background p q (some-factor state.map r) is are) in
+    pictures-alike r.format p a b e (subst (λ (shown : SmoothFields). IsWrittenPicture r.format shown b) one f)
 one-to picture hits state query (Ok (request.Information r)) a b meant (found, mine, e) (others, theirs, f) =
     let layers : HasLayers state.map r.layers = queried-layers state.map (layer_names (texts_of (pairs_of query))) (names_of (given (texts_of (pairs_of query)) parameter.QueryLayers)) r.layers meant.1.1.layers in
     equal-alike a b (e ∙ ap (λ (h : List LayerHits). record { mime = mime.Plain; body = featureinfo.answer state.map h }) (one-found hits state.map r r.layers found others layers mine theirs) ∙ sym f)
 
 -- two answers to a query in a state are alike
-one-answer : MeaningIsOne → HasOnePicture → HasOneHitList → (state : State) (query : List ℕ) (a b : Answer) → IsAnswer state query a → IsAnswer state query b → AreAlike a b
+one-answer : MeaningIsOne → HasOneSmoothPicture → HasOneHitList → (state : State) (query : List ℕ) (a b : Answer) → IsAnswer state query a → IsAnswer state query b → AreAlike a b
 one-answer one picture hits state query a b (meaning, meant, is) (other, said, are) =
     let same : other ≡ meaning = one state.map state.sequence query other meaning said meant in
     one-to picture hits state query meaning a b meant is (rw same at are)
 
-pub replicas-answer-alike : MeaningIsOne → HasOnePicture → HasOneHitList → ReplicasAnswerAlike
+pub replicas-answer-alike : MeaningIsOne → HasOneSmoothPicture → HasOneHitList → ReplicasAnswerAlike
 replicas-answer-alike meaning picture hits old one other events theirs replies answers run their_run published =
     let both : Some one ≡ Some other = sym (led old one events replies run) ∙ ap (after old) published ∙ led old other theirs answers their_run in
     let same : one ≡ other = cc in

@@ -1,13 +1,12 @@
 -- The map machine: its answer to a query, its state after a batch, and its runs (docs/SERVICE.md, "The machine").
-use Rattle.std.specs.Prelude.{◌≡◌, ℕ, ◌+◌, ◌-ℤ◌, unsigned_abs, List, [], ◌∷◌, Some, Result, Ok, Err}
+use Rattle.std.specs.Prelude.{◌≡◌, ℕ, ◌+◌, ◌-ℤ◌, unsigned_abs, List, [], ◌∷◌, Some, unwrap_or, Result, Ok, Err}
 use Rattle.std.specs.List.{AllZip}
 use Rattle.geom.specs.Scale.{PictureScale}
-use Rattle.mapdefs.specs.Alpha.{with_alphas}
 use Rattle.mapdefs.specs.declared.map.MapFields.{MapFields}
-use Rattle.mapdefs.specs.declared.picture.PictureFields.{PictureFields}
+use Rattle.mapdefs.specs.declared.smooth_picture.SmoothFields.{SmoothFields}
 use Rattle.operations.specs.declared.mime.Mime.TheVariants as mime
 use Rattle.scene.specs.Scene.{SceneValue}
-use Rattle.viewport.specs.View.{ViewValue, plain_view}
+use Rattle.viewport.specs.View.{ViewValue, fine_by, plain_view}
 use Rattle.viewport.specs.declared.heights.Heights.{Heights}
 use Rattle.viewport.specs.declared.heights.Heights.TheVariants as heights
 use Rattle.crsaxes.specs.declared.crs.Crs.{Crs}
@@ -24,8 +23,8 @@ use Rattle.wmsquery.specs.declared.request.Request.TheVariants as request
 use Rattle.batches.specs.Batch.{State, batched}
 use Rattle.capabilities.specs.Document.{document}
 use Rattle.png.specs.Decode.{decoded}
-use Rattle.symbols.specs.Netpbm.{pam, ppm}
-use Rattle.compose.specs.Picture.{IsPictureOf}
+use Rattle.symbols.specs.Netpbm.{smooth_pam, smooth_ppm}
+use Rattle.compose.specs.Smooth.{IsSmoothPictureOf}
 use Rattle.featureinfo.specs.Answer as featureinfo
 use Rattle.featureinfo.specs.Hits.{AreHitsOf}
 use Rattle.featureinfo.specs.declared.layer_hits.LayerHits.{LayerHits}
@@ -49,17 +48,22 @@ view_of request = plain_view (heights_of request.crs) request.area request.width
 abbrev pub scale_of : ViewValue → PictureScale
 scale_of view = record { span = unsigned_abs (view.area.maxx -ℤ view.area.minx); width = view.width }
 
--- an answer is a picture in a format: as a pixmap these bytes, as PNG any that are read as the picture
-abbrev pub IsWrittenPicture : Format → PictureFields → Answer → Type 0
-IsWrittenPicture format.Png picture answer = (answer.mime ≡ mime.Png) × (decoded answer.body ≡ Some (with_alphas picture))
-IsWrittenPicture format.Pixmap picture answer = answer ≡ record { mime = mime.Pixmap; body = ppm picture }
-IsWrittenPicture format.ArbitraryMap picture answer = answer ≡ record { mime = mime.ArbitraryMap; body = pam picture }
+-- the view by the picture of which the requested one is the mean: as many times as fine as the map says, where an area that large has
+-- such a picture, else the requested one itself
+abbrev pub fine_of : MapFields → MapRequest → ViewValue
+fine_of map request = unwrap_or (fine_by (view_of request) map.smoothing) (view_of request)
 
--- the answer to a request for a picture: the requested picture of the map, in its format
+-- an answer is a picture in a format: as a pixmap these bytes, as PNG any that are read as the picture
+abbrev pub IsWrittenPicture : Format → SmoothFields → Answer → Type 0
+IsWrittenPicture format.Png picture answer = (answer.mime ≡ mime.Png) × (decoded answer.body ≡ Some picture)
+IsWrittenPicture format.Pixmap picture answer = answer ≡ record { mime = mime.Pixmap; body = smooth_ppm picture }
+IsWrittenPicture format.ArbitraryMap picture answer = answer ≡ record { mime = mime.ArbitraryMap; body = smooth_pam picture }
+
+-- the answer to a request for a picture: the requested picture of the map at the scale of the request, in its format
 abbrev pub IsMapAnswer : MapFields → MapRequest → Answer → Type 0
 IsMapAnswer map request answer =
-    (picture : PictureFields)
-    × IsPictureOf map (view_of request) (scale_of (view_of request)) request.chosen request.background picture
+    (picture : SmoothFields)
+    × IsSmoothPictureOf map (fine_of map request) (scale_of (view_of request)) request.chosen request.background picture
     × IsWrittenPicture request.format picture answer
 
 -- the scene of a request for a picture: its map, its view and its scale

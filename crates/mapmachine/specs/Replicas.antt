@@ -1,7 +1,7 @@
 -- Machines that began alike and published equal lists of batches, as servers that follow one log (docs/SERVICE.md, "The machine").
 use Rattle.std.specs.Prelude.{◌≡◌, ℕ, List, [], ◌∷◌}
 use Rattle.batches.specs.Batch.{State}
-use Rattle.mapdefs.specs.declared.picture.PictureFields.{PictureFields}
+use Rattle.mapdefs.specs.declared.smooth_picture.SmoothFields.{SmoothFields}
 use Rattle.wmsquery.specs.declared.request.Format.TheVariants as format
 use Rattle.mapmachine.specs.Machine.{IsAnswer, IsWrittenPicture, Runs}
 use Rattle.answers.specs.declared.answer.Answer.{Answer}
@@ -19,7 +19,7 @@ published_batches events replies = []
 -- two answers are alike: the same bytes, but of PNG the same picture
 pub data AreAlike : Answer → Answer → Type 0 where
   equal_answers : (answer : Answer) → AreAlike answer answer
-  equal_pictures : (picture : PictureFields) (a b : Answer) → IsWrittenPicture format.Png picture a → IsWrittenPicture format.Png picture b → AreAlike a b
+  equal_pictures : (picture : SmoothFields) (a b : Answer) → IsWrittenPicture format.Png picture a → IsWrittenPicture format.Png picture b → AreAlike a b
 
 -- the law: two machines that began alike and published equal lists of batches have one state, whatever else came to each, and where
 -- both answer a query their answers are alike

@@ -3,7 +3,7 @@
 ghost use Rattle.mapmachine.specs.Machine.{PublishedCounts};
 ghost use Rattle.mapmachine.specs.Replicas.{ReplicasAnswerAlike};
 
-use compose::laws::one_picture;
+use compose::laws::one_smooth_picture;
 use featureinfo::laws::one_hit_list;
 use wmsquery::laws::one_meaning;
 
@@ -19,6 +19,6 @@ pub fn replicas_answer_alike()
     ensures { ReplicasAnswerAlike }
 {
     one_meaning();
-    one_picture();
+    one_smooth_picture();
     one_hit_list();
 }

@@ -1,26 +1,29 @@
-ghost use Rattle.std.specs.Prelude.{◌≡◌, ◌<◌, ◌-ℤ◌, unsigned_abs, length, All, Ok, Err, IfOk, IfSome, IfErr, OnErr};
+ghost use Rattle.std.specs.Prelude.{◌≡◌, ◌<◌, ◌-ℤ◌, unwrap_or, unsigned_abs, length, All, Ok, Err, IfOk, IfSome, IfErr, OnErr};
 ghost use Rattle.std.specs.List.{AllZip, Contains};
 ghost use Rattle.geom.specs.World.{IsExtent};
-ghost use Rattle.mapmachine.specs.Machine.{heights_of, IsWrittenPicture};
+ghost use Rattle.mapdefs.specs.Alpha.{with_alphas};
+ghost use Rattle.mapmachine.specs.Machine.{fine_of, heights_of, view_of, IsWrittenPicture};
 
 use crate::reply::{Event, Reply};
 use answers::Answer;
 use batches::{BatchError, BatchFault, BatchKind, MAX_BATCH, after_batch};
 use capabilities::document;
-use compose::{PictureQuery, draw};
+use compose::laws::smooth_by_one;
+use compose::{FineScene, PictureQuery, draw, smooth_picture};
 use crsaxes::Crs;
 use featureinfo::{LayerHits, LayerQuery, hits_in, text};
 use geom::{PictureSide, WorldBox};
 use layers::Layers;
-use mapdefs::{Items, Map, Picture, Shared};
+use mapdefs::{Items, Map, Picture, Shared, SmoothPicture};
 use operations::Mime;
-use png::write_png;
+use png::{write_png, write_smooth_png};
 use scaledenom::Scale;
 use scene::Scene;
 use std::alloc::{AllocError, Global};
 use std::marker::Model;
-use symbols::{write_pam, write_ppm};
-use viewport::{Heights, View};
+use symbols::laws::alphas;
+use symbols::{write_pam, write_ppm, write_smooth_pam, write_smooth_ppm};
+use viewport::{Fine, Heights, View};
 use wmsquery::{
     Format, InformationRequest, MapRequest, QueryError, Request, WmsFault, read as read_query,
     report,
@@ -46,6 +49,30 @@ impl Model for Machine {
     ghost view = { λ m. record { map = m.layers; sequence = m.sequence } };
 }
 
+// The view of a request: its area, by a picture of its sides.
+fn view_of(request: &MapRequest) -> View
+    requires { IsExtent request.now.area }
+    ensures { result ≡ view_of request.now }
+{
+    View::new(
+        heights_of(request.crs),
+        request.area,
+        request.width,
+        request.height,
+    )
+}
+
+// What a request asks for of a picture.
+fn asked_of(request: &MapRequest) -> PictureQuery<'_>
+    ensures chosen { result.chosen.now ≡ request.now.chosen }
+    ensures background { result.background ≡ request.now.background }
+{
+    PictureQuery {
+        chosen: request.chosen.as_slice(),
+        background: request.background,
+    }
+}
+
 // The scale at which an area is shown by that many columns of pixels.
 fn scale_of(area: WorldBox, width: PictureSide) -> Scale
     requires { IsExtent area }
@@ -55,10 +82,35 @@ fn scale_of(area: WorldBox, width: PictureSide) -> Scale
     Scale::of(span as u32, width)
 }
 
-// A picture in a format.
-fn written_picture(alloc: Global, format: Format, picture: &Picture) -> Result<Answer, AllocError>
+// A picture whose pixels are means, in a format.
+fn written_smooth(
+    alloc: Global,
+    format: Format,
+    picture: &SmoothPicture,
+) -> Result<Answer, AllocError>
     ensures { IfOk result (IsWrittenPicture format picture.now) }
 {
+    match format {
+        Format::Png => Ok(Answer {
+            mime: Mime::Png,
+            body: write_smooth_png(alloc, picture)?,
+        }),
+        Format::Pixmap => Ok(Answer {
+            mime: Mime::Pixmap,
+            body: write_smooth_ppm(alloc, picture)?,
+        }),
+        Format::ArbitraryMap => Ok(Answer {
+            mime: Mime::ArbitraryMap,
+            body: write_smooth_pam(alloc, picture)?,
+        }),
+    }
+}
+
+// A picture in a format.
+fn written_picture(alloc: Global, format: Format, picture: &Picture) -> Result<Answer, AllocError>
+    ensures { IfOk result (IsWrittenPicture format (with_alphas picture.now)) }
+{
+    alphas();
     match format {
         Format::Png => Ok(Answer {
             mime: Mime::Png,
@@ -149,14 +201,46 @@ impl Machine {
     {
         Scene::new(
             self.layers.map(),
-            View::new(
-                heights_of(request.crs),
-                request.area,
-                request.width,
-                request.height,
-            ),
+            view_of(request),
             scale_of(request.area, request.width),
         )
+    }
+
+    // The fine picture of a request, where the map asks for one and the area is large enough.
+    fn fine(&self, request: &MapRequest) -> Option<Fine>
+        requires { IsExtent request.now.area }
+        ensures { unwrap_or result (view_of request.now) ≡ fine_of self.now.map request.now }
+    {
+        let factor = self.layers.map().get().smoothing;
+        if factor.times() == 1 {
+            return None;
+        }
+        Fine::new(view_of(request), factor)
+    }
+
+    // The answer to a request for a picture, each of whose pixels is the mean of some of a fine picture.
+    fn smooth_answer(&self, request: &MapRequest, fine: Fine) -> Result<Answer, AllocError>
+        requires within { IsMapWithin (length self.now.map.layers) request.now }
+        requires fine { fine ≡ fine_of self.now.map request.now }
+        ensures { IfOk result (Answers self.now (Ok (Request.Map request.now))) }
+    {
+        let asked = asked_of(request);
+        let scale = scale_of(request.area, request.width);
+        let scene = FineScene::new(self.layers.map(), fine, scale);
+        let picture = smooth_picture(self.alloc, &scene, &self.layers, &asked)?;
+        written_smooth(self.alloc, request.format, &picture)
+    }
+
+    // The answer to a request for a picture whose pixels are those that are drawn.
+    fn plain_answer(&self, request: &MapRequest) -> Result<Answer, AllocError>
+        requires within { IsMapWithin (length self.now.map.layers) request.now }
+        requires plain { fine_of self.now.map request.now ≡ view_of request.now }
+        ensures { IfOk result (Answers self.now (Ok (Request.Map request.now))) }
+    {
+        smooth_by_one();
+        let asked = asked_of(request);
+        let picture = draw(self.alloc, &self.scene(request), &self.layers, &asked)?;
+        written_picture(self.alloc, request.format, &picture)
     }
 
     // The answer to a request for a picture.
@@ -164,12 +248,10 @@ impl Machine {
         requires within { IsMapWithin (length self.now.map.layers) request.now }
         ensures { IfOk result (Answers self.now (Ok (Request.Map request.now))) }
     {
-        let asked = PictureQuery {
-            chosen: request.chosen.as_slice(),
-            background: request.background,
-        };
-        let picture = draw(self.alloc, &self.scene(request), &self.layers, &asked)?;
-        written_picture(self.alloc, request.format, &picture)
+        match self.fine(request) {
+            Some(fine) => self.smooth_answer(request, fine),
+            None => self.plain_answer(request),
+        }
     }
 
     // The hits of a layer whose features are requested.

@@ -21,7 +21,7 @@ use Rattle.mapwords.specs.declared.fault.Fault.{Fault}
 use Rattle.mapdefs.specs.Outcome.{and_then}
 use Rattle.mapwords.specs.declared.table.TextKeyword.{TextKeyword}
 use Rattle.mapwords.specs.declared.table.TextKeyword.TheVariants.{Name, ClassItem, LabelItem, Template, WmsTitle, OwsTitle, WmsOnlineResource, OwsOnlineResource}
-use Rattle.mapwords.specs.declared.table.CountKeyword.TheVariants.{Width, Size, Tolerance, Priority, Buffer, MinDistance}
+use Rattle.mapwords.specs.declared.table.CountKeyword.TheVariants.{Width, Size, Tolerance, Priority, Buffer, MinDistance, Smoothing}
 use Rattle.mapwords.specs.declared.table.FlagKeyword.TheVariants.{Partials, Force, Png, Mercator}
 use Rattle.mapwords.specs.declared.table.ScaleKeyword.TheVariants.{Min, Max}
 use Rattle.mapwords.specs.declared.table.ColourKeyword.{ColourKeyword}
@@ -153,7 +153,7 @@ whole_world = record {
 }
 
 -- a map has the title and the address of its service, its extent, without which it shows the whole world, what it offers
--- beside what each map does, its font, its symbols and its layers
+-- beside what each map does, how many times as fine the pictures are that are averaged, its font, its symbols and its layers
 abbrev pub map_with : List Symbol → List (Option TableFields) → Option FontFields → MapTree → MapFields
 map_with symbols tables font tree = record {
   title = unwrap_or (service_title tree.values) (codes "WMS");
@@ -161,6 +161,7 @@ map_with symbols tables font tree = record {
   extent = unwrap_or (last extent_in tree.values) whole_world;
   png = unwrap_or (last (flag_in Png) tree.values) false;
   mercator = unwrap_or (last (flag_in Mercator) tree.values) false;
+  smoothing = unwrap_or (last (count_in Smoothing) tree.values) 1;
   font = font;
   symbols = symbols;
   layers = map (layer_of symbols) (zip tree.layers tables);

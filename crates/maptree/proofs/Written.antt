@@ -48,7 +48,7 @@ use Rattle.mapwords.specs.Keyword.{spelling, is_spelt}
 use Rattle.mapwords.specs.Given.{value_in}
 use Rattle.maptree.specs.Meaning.{block_in, alone}
 use Rattle.maptree.specs.Says.{Takes, closing_fault, is_full, says}
-use Rattle.maptree.specs.Written.{bare, quoted, block_text, position_text, flag_text, HasNoComma, IsKeyword, IsKey, IsCount, least_count, most_count, map_name, style_colour, style_outline, label_colour, label_outline, service_wms_title, IsWritten, text, table, font, formats, systems, metadata, csv_x, csv_y, items, flag, scale, no_colour, some_colour, geometry, pixmap, position, equals, one_of, extent, IsBlockIn, symbol, layer, class, feature, style, points, label, web, web_metadata, layer_metadata, IsWrittenOut, nothing, said, vertex, inside, WrittenIsRead}
+use Rattle.maptree.specs.Written.{bare, quoted, block_text, position_text, flag_text, HasNoComma, IsKeyword, IsKey, IsCount, least_count, most_count, map_name, style_colour, style_outline, label_colour, label_outline, service_wms_title, IsWritten, text, table, font, formats, systems, smoothing, metadata, csv_x, csv_y, items, flag, scale, no_colour, some_colour, geometry, pixmap, position, equals, one_of, extent, IsBlockIn, symbol, layer, class, feature, style, points, label, web, web_metadata, layer_metadata, IsWrittenOut, nothing, said, vertex, inside, WrittenIsRead}
 use Rattle.maptree.specs.Written as written_as
 use Rattle.maptree.proofs.Blocks.{block-enough}
 use Rattle.mapwords.proofs.Colours.{counts_of}
@@ -215,6 +215,7 @@ module _ (tail : Tail) (k : ℕ) where
   value-read b above before v ts rest (font given line) p = on b above (Said v before) rest (omega arith)
   value-read b above before v ts rest (formats line) p = on b above (Said v before) rest (omega arith)
   value-read b above before v ts rest (systems line) p = on b above (Said v before) rest (omega arith)
+  value-read b above before v ts rest (smoothing n line given is) p = rw is (on b above (Said v before) rest (omega arith))
   value-read b above before v ts rest (metadata c key w given line is) p = rw (key-says b key w line above before is) (on b above (Said v before) rest (omega arith))
   value-read b above before v ts rest (csv_x given line) p = rw (csv_x-cut given) (on b above (Said v before) rest (omega arith))
   value-read b above before v ts rest (csv_y given line) p = rw (csv_y-cut given) (on b above (Said v before) rest (omega arith))
@@ -318,6 +319,7 @@ some-token b v ts (table c word given line is named) = omega arith
 some-token b v ts (font given line) = omega arith
 some-token b v ts (formats line) = omega arith
 some-token b v ts (systems line) = omega arith
+some-token b v ts (smoothing n line given is) = omega arith
 some-token b v ts (metadata c key w given line is) = omega arith
 some-token b v ts (csv_x given line) = omega arith
 some-token b v ts (csv_y given line) = omega arith

@@ -31,6 +31,7 @@ use Rattle.mapwords.specs.declared.table.TextKeyword.{TextKeyword}
 use Rattle.mapwords.specs.declared.table.TextKeyword.TheVariants as texts
 use Rattle.mapwords.specs.declared.value.Value.{Value}
 use Rattle.mapwords.specs.declared.value.Value.TheVariants as value
+use Rattle.mapwords.specs.Count.{smoothing_of}
 use Rattle.mapwords.specs.Rule.{is_comma}
 use Rattle.mapwords.specs.Value.{is_table_name, named}
 use Rattle.maptree.specs.Entries.{Entries, Nothing, Said, Vertex, Inside, vertex_count}
@@ -162,6 +163,7 @@ least_count counts.Tolerance = 0
 least_count counts.Priority = 1
 least_count counts.Buffer = 0
 least_count counts.MinDistance = 0
+least_count counts.Smoothing = 1
 
 -- and the greatest
 abbrev pub most_count : CountKeyword → ℕ
@@ -171,6 +173,7 @@ most_count counts.Tolerance = MAX_TOLERANCE
 most_count counts.Priority = MAX_PRIORITY
 most_count counts.Buffer = MAX_BUFFER
 most_count counts.MinDistance = MAX_DISTANCE
+most_count counts.Smoothing = 4
 
 -- a count that a keyword takes
 pub record IsCount (keyword : CountKeyword) (n : ℕ) : Type 0 where
@@ -189,6 +192,9 @@ pub data IsWritten : Block → Value → List TokenValue → Type 0 where
       IsWritten block.Map (value.Flag flags.Png true) (bare line (codes "CONFIG") ∷ quoted line (codes "WMS_FORMATS") ∷ quoted line (codes "image/png") ∷ [])
   systems : (line : ℕ) →
       IsWritten block.Map (value.Flag flags.Mercator true) (bare line (codes "CONFIG") ∷ quoted line (codes "WMS_CRS") ∷ quoted line (codes "EPSG:3857") ∷ [])
+  smoothing : (n line : ℕ) (given : List ℕ) → smoothing_of given ≡ Some n →
+      IsWritten block.Map (value.Count (record { keyword = counts.Smoothing; number = n }))
+      (bare line (codes "CONFIG") ∷ quoted line (codes "WMS_SMOOTHING") ∷ quoted line given ∷ [])
   metadata : (b : Block) (key : List ℕ) (keyword : TextKeyword) (given : List ℕ) (line : ℕ) → IsKey b key keyword →
       IsWritten b (value.Text keyword (named given line)) (quoted line key ∷ quoted line given ∷ [])
   csv_x : (given : List ℕ) (line : ℕ) → IsWritten block.Layer (value.Text texts.CsvX (named given line)) (setting (codes "CSV_X") given line)

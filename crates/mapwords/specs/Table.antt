@@ -1,5 +1,6 @@
 -- The keywords of each block, and the bounds of counts (docs/MAPFILE.md, "Blocks and words" and "Numbers").
 use Rattle.std.specs.Prelude.{ℕ, Option, None, Some}
+use Rattle.geom.specs.declared.factor.TheConstants.{MAX_FACTOR}
 use Rattle.mapdefs.specs.declared.limits.TheConstants.{MAX_LINE_WIDTH, MAX_SQUARE, MAX_TOLERANCE, MAX_PRIORITY, MAX_BUFFER, MAX_DISTANCE}
 use Rattle.mapwords.specs.declared.role.Block.{Block}
 use Rattle.mapwords.specs.declared.role.Block.TheVariants as block
@@ -47,6 +48,7 @@ count_number count.Tolerance = 2
 count_number count.Priority = 3
 count_number count.Buffer = 4
 count_number count.MinDistance = 5
+count_number count.Smoothing = 6
 
 -- for each that takes TRUE or FALSE, and for what a CONFIG offers
 abbrev pub flag_number : FlagKeyword → ℕ
@@ -74,6 +76,7 @@ least_of count.Tolerance = 0
 least_of count.Priority = 1
 least_of count.Buffer = 0
 least_of count.MinDistance = 0
+least_of count.Smoothing = 1
 
 -- and the greatest
 abbrev pub most_of : CountKeyword → ℕ
@@ -83,6 +86,7 @@ most_of count.Tolerance = MAX_TOLERANCE
 most_of count.Priority = MAX_PRIORITY
 most_of count.Buffer = MAX_BUFFER
 most_of count.MinDistance = MAX_DISTANCE
+most_of count.Smoothing = MAX_FACTOR
 
 -- the keywords of MAP
 abbrev pub map_role : Keyword → Option Role

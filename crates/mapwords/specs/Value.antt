@@ -32,7 +32,7 @@ use Rattle.mapwords.specs.declared.offer.Offer.TheVariants as offer
 use Rattle.mapwords.specs.Offer.{offered}
 use Rattle.mapwords.specs.Rule.{rule_of}
 use Rattle.mapwords.specs.Setting.{setting_step}
-use Rattle.mapwords.specs.Count.{read_count, number_in}
+use Rattle.mapwords.specs.Count.{read_count, read_smoothing, number_in}
 use Rattle.mapwords.specs.Colour.{component_of, rgb_of, hex_colour}
 
 -- a text that a keyword was given, and the line of its token
@@ -112,12 +112,13 @@ north_step minx miny maxx None = None
 north_step minx miny maxx (Some maxy) = option_map (λ area. Whole (value.Extent area)) (extent_of minx miny maxx maxy)
 
 -- a CONFIG has a key and a value: that of LABELFONT names the file of the labels' font, those of WMS_FORMATS and WMS_CRS
--- say what is offered, another has no effect
+-- say what is offered, that of WMS_SMOOTHING how many times as fine the pictures are that are averaged, another has no effect
 abbrev pub config_step : List ℕ → ValueStep
 config_step key =
     if is_same_name key (codes "LABELFONT") then More (expected.Text LabelFont)
     else if is_same_name key (codes "WMS_FORMATS") then More expected.Formats
     else if is_same_name key (codes "WMS_CRS") then More expected.Systems
+    else if is_same_name key (codes "WMS_SMOOTHING") then More expected.Smoothing
     else More (expected.Unused 0)
 
 -- a token as a value of which nothing is kept but numbers, if it is such a value
@@ -139,6 +140,7 @@ plain_step (expected.Only word) t = only_step word t.text
 plain_step expected.ConfigKey t = Some (config_step t.text)
 plain_step expected.Formats t = option_map (λ is_offered. Whole (value.Flag Png is_offered)) (offered offer.Png t.text)
 plain_step expected.Systems t = option_map (λ is_offered. Whole (value.Flag Mercator is_offered)) (offered offer.Mercator t.text)
+plain_step expected.Smoothing t = option_map (λ count. Whole (value.Count count)) (read_smoothing t.text)
 plain_step (expected.Unused more) t = Some (unused_step more)
 plain_step _ t = None
 

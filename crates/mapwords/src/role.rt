@@ -57,6 +57,8 @@ pub enum Expected {
     Formats,
     /// Names of coordinate reference systems, of which it offers web mercator.
     Systems,
+    /// How many times as fine the pictures are of which a map's pictures are the means.
+    Smoothing,
     /// The west of the extent, after which south, east and north come. What was read of it is kept as
     /// plain numbers, in millionths of a degree.
     West,

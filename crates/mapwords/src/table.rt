@@ -3,6 +3,7 @@ ghost use Rattle.mapwords.specs.Table.{least_of, most_of, text_number, count_num
 
 use crate::keyword::Keyword;
 use crate::role::{Block, Expected, Role};
+use geom::MAX_FACTOR;
 use mapdefs::{MAX_BUFFER, MAX_DISTANCE, MAX_LINE_WIDTH, MAX_PRIORITY, MAX_SQUARE, MAX_TOLERANCE};
 
 /// The keywords that take a text, and the keys of METADATA, CONFIG and PROCESSING that do.
@@ -33,7 +34,7 @@ pub enum TextKeyword {
     Items,
 }
 
-/// The keywords that take a count.
+/// The keywords that take a count, and the key of CONFIG that does.
 #[derive(Clone, Copy)]
 pub enum CountKeyword {
     /// The width of a line, in pixels.
@@ -48,6 +49,8 @@ pub enum CountKeyword {
     Buffer,
     /// How far labels of one text stay apart, in pixels.
     MinDistance,
+    /// How many times as fine the pictures are of which a map's pictures are the means.
+    Smoothing,
 }
 
 /// The keywords that take TRUE or FALSE, and what a CONFIG offers or doesn't.
@@ -106,7 +109,10 @@ impl CountKeyword {
         ensures { result ≡ least_of self }
     {
         match self {
-            CountKeyword::Width | CountKeyword::Size | CountKeyword::Priority => 1,
+            CountKeyword::Width
+            | CountKeyword::Size
+            | CountKeyword::Priority
+            | CountKeyword::Smoothing => 1,
             CountKeyword::Tolerance | CountKeyword::Buffer | CountKeyword::MinDistance => 0,
         }
     }
@@ -122,6 +128,7 @@ impl CountKeyword {
             CountKeyword::Priority => MAX_PRIORITY.into(),
             CountKeyword::Buffer => MAX_BUFFER.into(),
             CountKeyword::MinDistance => MAX_DISTANCE,
+            CountKeyword::Smoothing => MAX_FACTOR.into(),
         }
     }
 }

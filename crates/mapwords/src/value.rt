@@ -222,8 +222,8 @@ fn north_step(minx: i64, miny: i64, maxx: i64, north: Option<Coordinate>) -> Opt
     extent_step(Extent::of(minx, miny, maxx, maxy))
 }
 
-// Reads the key of a CONFIG. That of the labels' font is followed by the name of its file, the other two by what is
-// offered.
+// Reads the key of a CONFIG. That of the labels' font is followed by the name of its file, two by what is offered, and one by
+// how many times as fine the pictures are that are averaged.
 fn config_step(key: &str) -> ValueStep
     ensures { result ≡ config_step key.now }
 {
@@ -233,6 +233,8 @@ fn config_step(key: &str) -> ValueStep
         ValueStep::More(Expected::Formats)
     } else if key == "WMS_CRS" {
         ValueStep::More(Expected::Systems)
+    } else if key == "WMS_SMOOTHING" {
+        ValueStep::More(Expected::Smoothing)
     } else {
         ValueStep::More(Expected::Unused(0))
     }
@@ -263,6 +265,7 @@ fn plain_step(expected: Expected, token: &Token) -> Option<ValueStep>
         Expected::ConfigKey => Some(config_step(text)),
         Expected::Formats => offer_step(FlagKeyword::Png, Offer::Png.offered(text)),
         Expected::Systems => offer_step(FlagKeyword::Mercator, Offer::Mercator.offered(text)),
+        Expected::Smoothing => whole(Count::read_smoothing(text).map(Value::Count)),
         Expected::Unused(more) => Some(unused_step(more)),
         // They are kept as texts.
         Expected::Text(_) | Expected::Table | Expected::Rule | Expected::Setting => None,

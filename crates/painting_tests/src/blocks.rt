@@ -3,12 +3,12 @@ ghost use Rattle.viewport.specs.View.{IsOnSide};
 
 use crate::painted_maps::{letters_of, map_of_two};
 use compose::{FineScene, Labels, PictureQuery, draw_block};
-use geom::{Micro, PictureSide, WorldBox};
+use geom::{Factor, Micro, PictureSide, WorldBox};
 use mapdefs::{AllFeatures, Map, Picture, Rgb};
 use scaledenom::Scale;
 use std::alloc::{AllocError, Global};
 use test_tables::{TableFault, check_rows, numbers};
-use viewport::{Factor, Fine, Heights, Stretch, View};
+use viewport::{Fine, Heights, Stretch, View};
 
 /// The picture of four degrees by four in two pixels by two, twice as fine.
 pub(crate) fn fine() -> Option<Fine> {
@@ -100,10 +100,10 @@ const BLOCKS: &str = "\
 # right of a polygon, and within one
 . .=3,1 2,2;polygon #/- none;-10,-10 25,-10 25,50 -10,50
 ## ##=1,2 2,2;polygon #/- none;-10,-10 55,-10 55,50 -10,50
-# a line two pixels wide, squares and a pixmap that reach into the block
-## #.=2,2 1,2;line #-2/- none;5,5 35,35
-##. ##. ...=1,3 1,3;point #--3/- none;15,25
-## ## ..=2,2 1,3;point #--3/- none;25,25
+# a line and squares of a pixel of the map, and a pixmap, that reach into the block
+## #.=2,2 1,2;line #-1/- none;5,5 35,35
+#.. ... ...=1,3 1,3;point #--1/- none;5,35
+## ## ..=2,2 1,3;point #--1/- none;25,25
 #o .#=2,2 0,2;point #---0/- none;35,25";
 
 #[test]

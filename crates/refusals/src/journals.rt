@@ -2,7 +2,10 @@ use crate::marks::{Call, begin, end, play_on};
 use crate::reading::plain_machine;
 use compaction::LastChanges;
 use journal::{JournalName, push_header, push_record};
-use journalfile::{Journal, Log, PutFault, RecoverFault, Recovered, Replaceable, recover};
+use journalfile::{
+    Journal, Log, LogCause, NotCompacted, PutFault, RecoverFault, Recovered, ReplaceFault,
+    Replaceable, recover,
+};
 use std::alloc::{AllocError, Global};
 use std::io::{self, Read};
 
@@ -12,10 +15,6 @@ const JOURNAL: JournalName = JournalName {
 };
 
 const BATCH: &[u8] = b"OFF a\n";
-
-/// There is no room left.
-#[derive(Drop)]
-struct Full;
 
 /// Bytes in memory with room for some more, so that adding to them takes no memory. Nothing is proved of it.
 #[derive(Drop)]
@@ -27,7 +26,7 @@ struct Room {
 impl Log for Room {
     ghost use Rattle.std.specs.Prelude.{[]};
 
-    type Failure = Full;
+    type Failure = LogCause;
 
     ghost reliable = { ⊥ };
 
@@ -45,42 +44,46 @@ impl Log for Room {
 
     ghost only_now = { λ reliable. absurd reliable };
 
-    fn read_at(&mut self, offset: usize, room: &mut [u8]) -> Result<usize, Full> {
+    fn read_at(&mut self, offset: usize, room: &mut [u8]) -> Result<usize, LogCause> {
         let mut left = self.bytes.get(offset..).unwrap_or(&[]);
-        left.read(room).map_err(|_| Full)
+        left.read(room).map_err(|_| LogCause::NoMemory)
     }
 
-    fn append(&mut self, bytes: &[u8]) -> Result<(), Full> {
-        self.bytes.extend_from_slice(bytes).map_err(|_| Full)
+    fn append(&mut self, bytes: &[u8]) -> Result<(), LogCause> {
+        self.bytes
+            .extend_from_slice(bytes)
+            .map_err(|_| LogCause::NoMemory)
     }
 
-    fn cut(&mut self, end: usize) -> Result<(), Full> {
+    fn cut(&mut self, end: usize) -> Result<(), LogCause> {
         self.bytes.truncate(end);
         Ok(())
     }
 
-    fn sync(&mut self) -> Result<(), Full> {
+    fn sync(&mut self) -> Result<(), LogCause> {
         Ok(())
     }
 }
 
 impl Replaceable for Room {
-    fn beside(&mut self) -> Result<Self, Full> {
+    fn beside(&mut self) -> Result<Self, LogCause> {
         match Vec::with_capacity(self.alloc, 4_096) {
             Ok(bytes) => Ok(Room {
                 alloc: self.alloc,
                 bytes,
             }),
-            Err(_) => Err(Full),
+            Err(_) => Err(LogCause::NoMemory),
         }
     }
 
-    fn replace(&mut self, successor: Self) -> Result<(), Full> {
+    fn replace(&mut self, successor: Self) -> Result<(), ReplaceFault<LogCause>> {
         self.bytes = successor.bytes;
         Ok(())
     }
 
     fn discard(self) {}
+
+    fn report(&self, _why: NotCompacted) {}
 }
 
 // A journal of so many batches, and a broken record after them.
@@ -219,8 +222,8 @@ impl Call for Compacting {
         let answer = self.journal.compact();
         end(rt)?;
         match answer {
-            Ok(true) => Ok(Some(String::from_str(rt.alloc(), "compacted")?)),
-            Ok(false) => Ok(None),
+            Ok(None) => Ok(Some(String::from_str(rt.alloc(), "compacted")?)),
+            Ok(Some(_)) => Ok(None),
             Err(_) => Ok(Some(String::from_str(rt.alloc(), "failed")?)),
         }
     }

@@ -17,7 +17,7 @@ use crate::journals::{compact_row, left_row, note_row, put_row, recover_row};
 use crate::marks::print_answer;
 use crate::reading::{
     document_row, expression_row, font_row, head_row, open_row, parse_row, pixmap_row, query_row,
-    reply_row, table_row,
+    reply_row, smoothed_row, table_row,
 };
 use crate::sharing_rows::{accept_row, enter_row, share_row, submit_row};
 use std::io;
@@ -29,6 +29,9 @@ const PICTURE: &[u8] =
 
 const PNG: &[u8] =
     b"VERSION=1.3.0&REQUEST=GetMap&LAYERS=a,p&STYLES=&CRS=CRS:84&BBOX=0,0,2,1&WIDTH=2&HEIGHT=1&FORMAT=image/png&TRANSPARENT=TRUE";
+
+const MAP: &[u8] =
+    b"VERSION=1.3.0&REQUEST=GetMap&LAYERS=a,p&STYLES=&CRS=CRS:84&BBOX=0,0,2,1&WIDTH=2&HEIGHT=1&FORMAT=image/x-portable-arbitrarymap&TRANSPARENT=TRUE";
 
 const HITS: &[u8] =
     b"VERSION=1.3.0&REQUEST=GetFeatureInfo&LAYERS=p&CRS=CRS:84&BBOX=0,0,2,1&WIDTH=2&HEIGHT=1&QUERY_LAYERS=p&INFO_FORMAT=text/plain&I=0&J=0";
@@ -52,6 +55,7 @@ fn answer(rt: &HostRuntime, name: &str) -> io::Result<Option<String>> {
         "left" => left_row(rt),
         "picture" => reply_row(rt, PICTURE),
         "png" => reply_row(rt, PNG),
+        "smoothed" => smoothed_row(rt, MAP),
         "hits" => reply_row(rt, HITS),
         _ => reply_row(rt, CAPABILITIES),
     }

@@ -24,6 +24,11 @@ FEATURE POINTS 0 0 1 0 1 1 0 1 END END END \
 LAYER NAME p TYPE POINT TEMPLATE t PROCESSING 'ITEMS=n' CLASS STYLE COLOR 4 5 6 END END \
 FEATURE ITEMS k POINTS 0.5 0.5 END END END END";
 
+const SMOOTHED: &[u8] =
+    b"MAP CONFIG WMS_SMOOTHING 2 LAYER NAME a TYPE POLYGON CLASS STYLE COLOR 1 2 3 END END \
+FEATURE POINTS 0 0 1 0 1 1 0 1 END END END \
+LAYER NAME p TYPE POINT CLASS STYLE COLOR 4 5 6 END END FEATURE POINTS 0.5 0.5 END END END END";
+
 const TABLE: &[u8] = b"x,y,n\n1,2,a\n3,4,b\n";
 
 const PIXMAP: &[u8] = b"P6 2 1 255\nabcdef";
@@ -199,10 +204,23 @@ pub fn head_row(rt: &HostRuntime) -> io::Result<Option<String>> {
     }
 }
 
-/// Answers a query: the mime type, and the body as text or by its bytes.
+/// Answers a query about the plain map.
 pub fn reply_row(rt: &HostRuntime, query: &[u8]) -> io::Result<Option<String>> {
+    let machine = plain_machine(rt.alloc())?;
+    answer_row(rt, &machine, query)
+}
+
+/// Answers a query about a map that is smoothed.
+pub fn smoothed_row(rt: &HostRuntime, query: &[u8]) -> io::Result<Option<String>> {
     let alloc = rt.alloc();
-    let machine = plain_machine(alloc)?;
+    let map = parse(alloc, SMOOTHED, &Files::new(alloc)).map_err(|_| AllocError)?;
+    let machine = Machine::open(alloc, map)?;
+    answer_row(rt, &machine, query)
+}
+
+// The answer to a query: the mime type, and the body as text or by its bytes.
+fn answer_row(rt: &HostRuntime, machine: &Machine, query: &[u8]) -> io::Result<Option<String>> {
+    let alloc = rt.alloc();
     begin(rt)?;
     let answer = machine.reply(query);
     end(rt)?;

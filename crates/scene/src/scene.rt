@@ -7,7 +7,7 @@ ghost use Rattle.viewport.specs.declared.view.TheConstants.{MAX_MARGIN};
 
 use crate::classes::first_class;
 use crate::parts::points_of_parts;
-use geom::{Device, Pixel, World, WorldBox};
+use geom::{Device, Factor, Pixel, World, WorldBox};
 use mapdefs::{ClassFields, FeatureFields, Font, LayerFields, Map, Part, Symbol};
 use scaledenom::Scale;
 use std::alloc::{AllocError, Global};
@@ -51,6 +51,13 @@ impl<'a> Scene<'a> {
         ensures { result.now ≡ self.now.view }
     {
         &self.projection
+    }
+
+    /// How many pixels of the picture a map's pixel is, in both directions.
+    pub fn factor(&self) -> Factor
+        ensures { result ≡ self.now.view.factor }
+    {
+        self.projection.factor()
     }
 
     /// The layer of an index in the map.

@@ -17,14 +17,14 @@ use Rattle.strokes.specs.Segment.{right_of, turned}
 use Rattle.strokes.proofs.Keeping.{opposite-wide}
 
 -- the tests of a distance t and a reach r, as i128 makes them
-pub near-then : (r t b u : ℤ) → IsBelow (2 ^ 57) r → IsBelow (2 ^ 98) t → r ≡ b → t ≡ u →
+pub near-then : (r t b u : ℤ) → IsBelow (2 ^ 59) r → IsBelow (2 ^ 98) t → r ≡ b → t ≡ u →
     int_lt (to_z w128 (of_z w128 (pos 0 -ℤ to_z w128 (of_z w128 r)))) (to_z w128 (of_z w128 t)) ≡ true →
     int_le (to_z w128 (of_z w128 t)) (to_z w128 (of_z w128 r)) ≡ (int_lt (neg_ℤ b) u && int_le u b)
 near-then r t b u p q e f h =
     let least : int_lt (neg_ℤ r) t ≡ true = rw (opposite-wide r (record { above = omega (arith, ints); below = omega (arith, ints) }), wide (2 ^ 98) t (omega arith) q) at h in
-    rw (wide (2 ^ 98) t (omega arith) q, wide (2 ^ 57) r (omega arith) p, ← e, ← f, least)
+    rw (wide (2 ^ 98) t (omega arith) q, wide (2 ^ 59) r (omega arith) p, ← e, ← f, least)
 
-pub near-else : (r t b u : ℤ) → IsBelow (2 ^ 57) r → IsBelow (2 ^ 98) t → r ≡ b → t ≡ u →
+pub near-else : (r t b u : ℤ) → IsBelow (2 ^ 59) r → IsBelow (2 ^ 98) t → r ≡ b → t ≡ u →
     int_lt (to_z w128 (of_z w128 (pos 0 -ℤ to_z w128 (of_z w128 r)))) (to_z w128 (of_z w128 t)) ≡ false →
     int_lt (to_z w128 (of_z w128 (pos 0 -ℤ to_z w128 (of_z w128 r)))) (to_z w128 (of_z w128 t)) ≡ (int_lt (neg_ℤ b) u && int_le u b)
 near-else r t b u p q e f h =
@@ -89,9 +89,9 @@ right-flat e i j = go (pos i) (low_end e).y (run e) ((centre (pos j) -ℤ (low_e
         let sixteen : (pos 16 *ℤ i) *ℤ s ≡ i *ℤ (pos 16 *ℤ s) = mul-comm (pos 16 *ℤ i) s ∙ (mul-left_comm s (pos 16) i ∙ (ap (λ z. pos 16 *ℤ z) (mul-comm s i) ∙ mul-left_comm (pos 16) i s)) in
         rw (apart, add-mul (pos 16 *ℤ i) (pos 8 -ℤ y) s, sixteen, mul-neg i (pos 16 *ℤ s)) (omega (arith, ints))
 
-pub offset_left-is : (t r : ℤ) → IsBelow (2 ^ 98) t → IsBelow (2 ^ 57) r →
+pub offset_left-is : (t r : ℤ) → IsBelow (2 ^ 98) t → IsBelow (2 ^ 59) r →
     to_z w128 (of_z w128 (to_z w128 (of_z w128 (to_z w128 (of_z w128 t) +ℤ to_z w128 (of_z w128 r))) -ℤ pos 1)) ≡ t +ℤ r -ℤ pos 1
 offset_left-is t r p q = omega (arith, ints)
 
-pub offset_right-is : (t r : ℤ) → IsBelow (2 ^ 98) t → IsBelow (2 ^ 57) r → to_z w128 (of_z w128 (to_z w128 (of_z w128 r) -ℤ to_z w128 (of_z w128 t))) ≡ r -ℤ t
+pub offset_right-is : (t r : ℤ) → IsBelow (2 ^ 98) t → IsBelow (2 ^ 59) r → to_z w128 (of_z w128 (to_z w128 (of_z w128 r) -ℤ to_z w128 (of_z w128 t))) ≡ r -ℤ t
 offset_right-is t r p q = omega (arith, ints)

@@ -3,14 +3,14 @@ use Rattle.std.specs.Prelude.{◌≡◌, ℕ, ◌+◌, ◌*◌, ◌≤◌, ◌<�
 use Rattle.geom.specs.Device.{pixel_centre}
 use Rattle.geom.specs.Edge.{EdgeEnds}
 use Rattle.geom.specs.Range.{IsBelow}
-use Rattle.mapdefs.specs.declared.limits.TheConstants.{MAX_LINE_WIDTH}
+use Rattle.mapdefs.specs.declared.limits.TheConstants.{MAX_FINE_WIDTH}
 use Rattle.strokes.specs.Round.{IsRoot, is_abreast, is_close, limit, square, square_of_half}
 use Rattle.strokes.specs.Segment.{SegmentValue}
 
 -- half of each chord of a disc of width w: of those that lie so many sixteenths of a pixel from its centre
 pub record AreChords (w : ℕ) (halves : List ℤ) : Type 0 where
   pub some : 1 ≤ w
-  pub most : w ≤ 4 * MAX_LINE_WIDTH
+  pub most : w ≤ MAX_FINE_WIDTH
   pub count : length halves ≡ 8 * w + 1
   pub all : (k : ℕ) → k < length halves → IsRoot (square_of_half w -ℤ square (pos k)) (slice_index_or halves k (pos 0))
   pub range : (k : ℕ) → k < length halves → IsBelow (2 ^ 61) (slice_index_or halves k (pos 0))
@@ -29,7 +29,7 @@ pub record IsSmallEdge (e : EdgeEnds) : Type 0 where
 -- a step has a width within the limits, a small edge, and how far aside of that a point may lie, squared and times its length
 pub record IsStep (s : SegmentValue) (limit_of_step : ℤ) : Type 0 where
   pub some : 1 ≤ s.width
-  pub most : s.width ≤ 4 * MAX_LINE_WIDTH
+  pub most : s.width ≤ MAX_FINE_WIDTH
   pub small : IsSmallEdge s.edge
   pub limit : limit_of_step ≡ limit s.width s.edge
   pub range : IsBelow (2 ^ 120) limit_of_step

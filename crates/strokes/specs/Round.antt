@@ -6,14 +6,14 @@ use Rattle.geom.specs.Device.{DevicePoint, pixel_centre}
 use Rattle.geom.specs.Edge.{EdgeEnds}
 use Rattle.geom.specs.Range.{IsBelow}
 use Rattle.scanfill.specs.declared.span.Span.{Span}
-use Rattle.mapdefs.specs.declared.limits.TheConstants.{MAX_LINE_WIDTH}
+use Rattle.mapdefs.specs.declared.limits.TheConstants.{MAX_FINE_WIDTH}
 use Rattle.strokes.specs.Line.{edges_of, segment_along}
 use Rattle.strokes.specs.Segment.{SegmentValue}
 
 -- the width of a round segment is within its limits
 pub record IsRoundSegment (s : SegmentValue) : Type 0 where
   pub some : 1 ≤ s.width
-  pub most : s.width ≤ 4 * MAX_LINE_WIDTH
+  pub most : s.width ≤ MAX_FINE_WIDTH
 
 -- the square of a number, and of half a width, which is 8 w sixteenths of a pixel
 abbrev pub square : ℤ → ℤ

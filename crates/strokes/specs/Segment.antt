@@ -3,7 +3,7 @@ use Rattle.std.specs.Prelude.{ℕ, ◌≤◌, ◌*◌, Bool, ◌&&◌, ◌||◌,
 use Rattle.std.specs.Int.RustNames.{unsigned_abs}
 use Rattle.geom.specs.Device.{DevicePoint}
 use Rattle.geom.specs.Edge.{EdgeEnds, low_end, high_end, rise, run}
-use Rattle.mapdefs.specs.declared.limits.TheConstants.{MAX_LINE_WIDTH}
+use Rattle.mapdefs.specs.declared.limits.TheConstants.{MAX_FINE_WIDTH}
 
 -- a segment: its edge, and its width
 pub record SegmentValue : Type 0 where
@@ -13,7 +13,7 @@ pub record SegmentValue : Type 0 where
 -- the width of a segment is within its limits
 pub record IsSegment (s : SegmentValue) : Type 0 where
   pub some : 1 ≤ s.width
-  pub most : s.width ≤ MAX_LINE_WIDTH
+  pub most : s.width ≤ MAX_FINE_WIDTH
 
 -- across and down exchanged, of a point, and of a segment from its upper end to the other
 abbrev pub turned : DevicePoint → DevicePoint

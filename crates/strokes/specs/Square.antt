@@ -1,7 +1,7 @@
 -- The square of a size round a pixel (docs/DRAWING.md, "When a pixel belongs to a line").
 use Rattle.std.specs.Prelude.{ℕ, ◌≤◌, ◌-◌, ◌/◌, Bool, ◌&&◌, ℤ, pos, ◌+ℤ◌, ◌-ℤ◌, int_le}
 use Rattle.geom.specs.Device.{PixelValue}
-use Rattle.mapdefs.specs.declared.limits.TheConstants.{MAX_SQUARE}
+use Rattle.mapdefs.specs.declared.limits.TheConstants.{MAX_FINE_SQUARE}
 
 -- a square: its pixel, and its size
 pub record SquareValue : Type 0 where
@@ -19,4 +19,4 @@ covers_square s i j = is_beside s.size s.pixel.i i && is_beside s.size s.pixel.j
 -- the size of a square is within its limits
 pub record IsSquare (s : SquareValue) : Type 0 where
   pub some : 1 ≤ s.size
-  pub most : s.size ≤ MAX_SQUARE
+  pub most : s.size ≤ MAX_FINE_SQUARE

@@ -5,7 +5,7 @@ use Rattle.geom.specs.Device.{DevicePoint, pixel_centre}
 use Rattle.geom.specs.Edge.{EdgeEnds, high_end, low_end, rise, run}
 use Rattle.geom.specs.Range.{IsBelow}
 use Rattle.geom.specs.declared.side.TheConstants.{MAX_PICTURE_SIDE}
-use Rattle.mapdefs.specs.declared.limits.TheConstants.{MAX_LINE_WIDTH}
+use Rattle.mapdefs.specs.declared.limits.TheConstants.{MAX_FINE_WIDTH}
 use Rattle.strokes.specs.Segment.{SegmentValue, right_of}
 
 -- numbers that grow or fall by equal steps, and what they are divided by
@@ -42,7 +42,7 @@ pub record IsStrip (s : SegmentValue) : Type 0 where
   pub right : run s.edge ≤ℤ rise s.edge
   pub left : neg_ℤ (rise s.edge) ≤ℤ run s.edge
   pub some : 1 ≤ s.width
-  pub most : s.width ≤ MAX_LINE_WIDTH
+  pub most : s.width ≤ MAX_FINE_WIDTH
 
 -- divided by 16 times the rise and rounded down, it is the column before the first one that a segment of width w comes near to in a row
 abbrev pub reached : ℕ → EdgeEnds → ℕ → ℤ

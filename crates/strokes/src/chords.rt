@@ -1,7 +1,7 @@
 ghost use Rattle.std.specs.Prelude.{◌≡◌, ℕ, ◌<◌, ◌≤◌, ◌*◌, length, pos, slice_index_or, IfOk};
 ghost use Rattle.geom.specs.Device.{pixel_centre};
 ghost use Rattle.geom.specs.declared.side.TheConstants.{MAX_PICTURE_SIDE};
-ghost use Rattle.mapdefs.specs.declared.limits.TheConstants.{MAX_LINE_WIDTH};
+ghost use Rattle.mapdefs.specs.declared.limits.TheConstants.{MAX_FINE_WIDTH};
 ghost use Rattle.scanfill.specs.Runs.{has_column};
 ghost use Rattle.strokes.specs.Round.{is_round};
 
@@ -33,10 +33,10 @@ impl Model for Chords {
 }
 
 impl Chords {
-    /// The chords of a disc of a width. The width is 1 to four times `MAX_LINE_WIDTH`.
+    /// The chords of a disc of a width. The width is 1 to `MAX_FINE_WIDTH`.
     pub fn new(alloc: Global, width: u8) -> Result<Self, AllocError>
         requires some { 1 ≤ width }
-        requires most { width ≤ 4 * MAX_LINE_WIDTH }
+        requires most { width ≤ MAX_FINE_WIDTH }
         ensures { IfOk result (λ chords. chords ≡ width) }
     {
         let mut halves = Vec::new(alloc);
@@ -51,7 +51,7 @@ impl Chords {
     pub fn width(&self) -> u8
         ensures value { result ≡ self.now }
         ensures some { 1 ≤ result }
-        ensures most { result ≤ 4 * MAX_LINE_WIDTH }
+        ensures most { result ≤ MAX_FINE_WIDTH }
     {
         self.width
     }

@@ -2,7 +2,7 @@ ghost use Rattle.std.specs.Prelude.{◌≡◌, ℕ, ◌<◌, ◌≤◌, ◌||◌
 ghost use Rattle.std.specs.List.{list_any};
 ghost use Rattle.clip.specs.EdgeClass.{has_row};
 ghost use Rattle.geom.specs.declared.side.TheConstants.{MAX_PICTURE_SIDE};
-ghost use Rattle.mapdefs.specs.declared.limits.TheConstants.{MAX_LINE_WIDTH};
+ghost use Rattle.mapdefs.specs.declared.limits.TheConstants.{MAX_FINE_WIDTH};
 ghost use Rattle.scanfill.specs.Runs.{AreRunsFrom};
 ghost use Rattle.strokes.specs.Columns.{is_marked};
 ghost use Rattle.strokes.specs.Line.{covers_centre, covers_pixel, line_of, segments_of, square_at};
@@ -34,7 +34,7 @@ impl Model for Line {
 
 impl Line {
     /// The line of a width along the vertices of each part. Where it is closed, each part's last vertex is
-    /// joined to its first. The width is 1 to `MAX_LINE_WIDTH`.
+    /// joined to its first. The width is 1 to `MAX_FINE_WIDTH`.
     pub fn new(
         alloc: Global,
         parts: &[Vec<Device>],
@@ -42,7 +42,7 @@ impl Line {
         width: u8,
     ) -> Result<Self, AllocError>
         requires some { 1 ≤ width }
-        requires most { width ≤ MAX_LINE_WIDTH }
+        requires most { width ≤ MAX_FINE_WIDTH }
         ensures { IfOk result (λ line. line ≡ line_of (map vec_items parts.now) closed width) }
     {
         let mut segments = Vec::new(alloc);
@@ -162,7 +162,7 @@ fn push_segments(
     width: u8,
 ) -> Result<(), AllocError>
     requires some { 1 ≤ width }
-    requires most { width ≤ MAX_LINE_WIDTH }
+    requires most { width ≤ MAX_FINE_WIDTH }
     ensures { OnOk result (segments.new.items ≡ segments.old.items ++ segments_of closed width part.now) }
 {
     let Some((first, rest)) = part.split_first() else {
@@ -182,7 +182,7 @@ fn push_segments(
 // Adds the squares round the vertices of a part.
 fn push_squares(squares: &mut Vec<Square>, part: &[Device], width: u8) -> Result<(), AllocError>
     requires some { 1 ≤ width }
-    requires most { width ≤ MAX_LINE_WIDTH }
+    requires most { width ≤ MAX_FINE_WIDTH }
     ensures { OnOk result (squares.new.items ≡ squares.old.items ++ map (square_at width) part.now) }
 {
     for vertex in part {

@@ -1,6 +1,6 @@
 ghost use Rattle.std.specs.Prelude.{◌≡◌, ◌≤◌, ◌*◌, ◌^◌, pos, ◌+ℤ◌, ◌-ℤ◌, ◌*ℤ◌, neg_ℤ};
 ghost use Rattle.geom.specs.Range.{IsBelow};
-ghost use Rattle.mapdefs.specs.declared.limits.TheConstants.{MAX_LINE_WIDTH};
+ghost use Rattle.mapdefs.specs.declared.limits.TheConstants.{MAX_FINE_WIDTH};
 
 /// The difference of two coordinates.
 pub fn difference(a: i64, b: i64) -> i64
@@ -43,10 +43,10 @@ pub fn twice(a: i128) -> i128
 
 /// Sixteen times a width, times a rise.
 pub fn reach(width: u8, rise: i64) -> i64
-    requires width { width ≤ MAX_LINE_WIDTH }
+    requires width { width ≤ MAX_FINE_WIDTH }
     requires rise { IsBelow (2 ^ 48) rise }
     ensures value { result ≡ pos (16 * width) *ℤ rise }
-    ensures range { IsBelow (2 ^ 57) result }
+    ensures range { IsBelow (2 ^ 59) result }
 {
     i64::from(16 * u16::from(width)) * rise
 }
@@ -72,7 +72,7 @@ pub fn opposite(a: i64) -> i64
 /// A coordinate less half a width.
 pub fn less(x: i64, width: u8) -> i64
     requires x { IsBelow (2 ^ 47) x }
-    requires width { width ≤ MAX_LINE_WIDTH }
+    requires width { width ≤ MAX_FINE_WIDTH }
     ensures value { result ≡ x -ℤ pos (8 * width) }
     ensures range { IsBelow (2 ^ 48) result }
 {
@@ -82,7 +82,7 @@ pub fn less(x: i64, width: u8) -> i64
 /// A coordinate plus half a width.
 pub fn more(x: i64, width: u8) -> i64
     requires x { IsBelow (2 ^ 47) x }
-    requires width { width ≤ MAX_LINE_WIDTH }
+    requires width { width ≤ MAX_FINE_WIDTH }
     ensures value { result ≡ x +ℤ pos (8 * width) }
     ensures range { IsBelow (2 ^ 48) result }
 {

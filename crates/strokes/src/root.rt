@@ -1,6 +1,6 @@
 ghost use Rattle.std.specs.Prelude.{◌≡◌, ◌≤◌, ◌*◌, ◌^◌, pos, ◌-ℤ◌, ◌*ℤ◌, ◌≤ℤ◌};
 ghost use Rattle.geom.specs.Range.{IsBelow};
-ghost use Rattle.mapdefs.specs.declared.limits.TheConstants.{MAX_LINE_WIDTH};
+ghost use Rattle.mapdefs.specs.declared.limits.TheConstants.{MAX_FINE_WIDTH};
 ghost use Rattle.strokes.specs.Round.{IsRoot, square, square_of_half};
 
 use crate::number::product;
@@ -17,7 +17,7 @@ pub fn root(n: i128) -> i64
 
 /// Half a width, in sixteenths of a pixel.
 pub fn half(width: u8) -> i64
-    requires { width ≤ 4 * MAX_LINE_WIDTH }
+    requires { width ≤ MAX_FINE_WIDTH }
     ensures value { result ≡ pos (8 * width) }
     ensures range { IsBelow (2 ^ 11) result }
 {
@@ -26,7 +26,7 @@ pub fn half(width: u8) -> i64
 
 /// The square of half a width, in sixteenths of a pixel.
 pub fn square_of_half(width: u8) -> i64
-    requires { width ≤ 4 * MAX_LINE_WIDTH }
+    requires { width ≤ MAX_FINE_WIDTH }
     ensures value { result ≡ square_of_half width }
     ensures range { IsBelow (2 ^ 21) result }
 {
@@ -49,7 +49,7 @@ pub fn limit(half: i64, length: i128) -> i128
 
 /// Half the chord of a disc that lies so many sixteenths of a pixel from its centre, at most half its width.
 pub fn half_chord(width: u8, down: u16) -> i64
-    requires width { width ≤ 4 * MAX_LINE_WIDTH }
+    requires width { width ≤ MAX_FINE_WIDTH }
     requires down { down ≤ 8 * width }
     ensures root { IsRoot (square_of_half width -ℤ square (pos down)) result }
     ensures range { IsBelow (2 ^ 61) result }

@@ -1,7 +1,7 @@
 ghost use Rattle.std.specs.Prelude.{◌≡◌, ℕ, ◌<◌, ◌≤◌, ◌*◌, ◌&&◌, pos};
 ghost use Rattle.geom.specs.Device.{pixel_centre};
 ghost use Rattle.geom.specs.declared.side.TheConstants.{MAX_PICTURE_SIDE};
-ghost use Rattle.mapdefs.specs.declared.limits.TheConstants.{MAX_LINE_WIDTH};
+ghost use Rattle.mapdefs.specs.declared.limits.TheConstants.{MAX_FINE_WIDTH};
 ghost use Rattle.scanfill.specs.Runs.{has_column};
 ghost use Rattle.strokes.specs.Round.{covers_round, is_abreast, is_close};
 
@@ -36,10 +36,10 @@ impl Model for RoundSegment {
 }
 
 impl RoundSegment {
-    /// The round segment of a width between two points. The width is 1 to four times `MAX_LINE_WIDTH`.
+    /// The round segment of a width between two points. The width is 1 to `MAX_FINE_WIDTH`.
     pub fn new(from: Device, to: Device, width: u8) -> Self
         requires some { 1 ≤ width }
-        requires most { width ≤ 4 * MAX_LINE_WIDTH }
+        requires most { width ≤ MAX_FINE_WIDTH }
         ensures { result ≡ record { edge = record { from = from; to = to }; width = width } }
     {
         let length = apart(from, to);

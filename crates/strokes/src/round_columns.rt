@@ -2,7 +2,7 @@ ghost use Rattle.std.specs.Prelude.{◌≡◌, ℕ, ◌<◌, ◌≤◌, ◌^◌,
 ghost use Rattle.geom.specs.Device.{centre, pixel_centre};
 ghost use Rattle.geom.specs.Range.{IsBelow};
 ghost use Rattle.geom.specs.declared.side.TheConstants.{MAX_PICTURE_SIDE};
-ghost use Rattle.mapdefs.specs.declared.limits.TheConstants.{MAX_LINE_WIDTH};
+ghost use Rattle.mapdefs.specs.declared.limits.TheConstants.{MAX_FINE_WIDTH};
 ghost use Rattle.scanfill.specs.Runs.{has_column};
 ghost use Rattle.strokes.specs.Round.{is_about, is_abreast, is_round, joined};
 
@@ -44,7 +44,7 @@ pub fn close_columns(span: Span, first: i128, step: i64, reach: i64) -> Span
 
 /// The columns of a row, of so many, whose centres lie at most half a width away from a point.
 pub fn disc_columns(width: u8, point: Device, row: u16, end: u16) -> Span
-    requires width { width ≤ 4 * MAX_LINE_WIDTH }
+    requires width { width ≤ MAX_FINE_WIDTH }
     requires row { row < MAX_PICTURE_SIDE }
     ensures all { (i : ℕ) → i < end → has_column result i ≡ is_round width point (pixel_centre (pos i) (pos row)) }
     ensures within { result.to ≤ end }
@@ -75,7 +75,7 @@ pub fn centres_between(least: i64, most: i64, end: u16) -> Span
 pub fn centres_about(a: i64, b: i64, width: u8, end: u16) -> Span
     requires a { IsBelow (2 ^ 47) a }
     requires b { IsBelow (2 ^ 47) b }
-    requires width { width ≤ 4 * MAX_LINE_WIDTH }
+    requires width { width ≤ MAX_FINE_WIDTH }
     ensures all { (i : ℕ) → i < end → has_column result i ≡ is_about width a b (centre (pos i)) }
     ensures within { result.to ≤ end }
 {

@@ -1,7 +1,7 @@
 ghost use Rattle.std.specs.Prelude.{◌≡◌, ℕ, ◌<◌, ◌≤◌, ◌*◌, ◌||◌, [], ◌++◌, length, map, pos, IfOk, OnOk, vec_items};
 ghost use Rattle.std.specs.List.{list_any};
 ghost use Rattle.geom.specs.declared.side.TheConstants.{MAX_PICTURE_SIDE};
-ghost use Rattle.mapdefs.specs.declared.limits.TheConstants.{MAX_LINE_WIDTH};
+ghost use Rattle.mapdefs.specs.declared.limits.TheConstants.{MAX_FINE_WIDTH};
 ghost use Rattle.scanfill.specs.Runs.{AreRunsFrom};
 ghost use Rattle.strokes.specs.Columns.{is_marked};
 ghost use Rattle.strokes.specs.Round.{covers_pixel, has_centre, round_line, round_segments};
@@ -32,7 +32,7 @@ impl Model for RoundLine {
 
 impl RoundLine {
     /// The round line of a width along the vertices of each part. Where it is closed, each part's last vertex is
-    /// joined to its first. The width is 1 to four times `MAX_LINE_WIDTH`.
+    /// joined to its first. The width is 1 to `MAX_FINE_WIDTH`.
     pub fn new(
         alloc: Global,
         parts: &[Vec<Device>],
@@ -40,7 +40,7 @@ impl RoundLine {
         width: u8,
     ) -> Result<Self, AllocError>
         requires some { 1 ≤ width }
-        requires most { width ≤ 4 * MAX_LINE_WIDTH }
+        requires most { width ≤ MAX_FINE_WIDTH }
         ensures { IfOk result (λ line. line ≡ round_line (map vec_items parts.now) closed width) }
     {
         let mut segments = Vec::new(alloc);
@@ -106,7 +106,7 @@ fn push_segments(
     width: u8,
 ) -> Result<(), AllocError>
     requires some { 1 ≤ width }
-    requires most { width ≤ 4 * MAX_LINE_WIDTH }
+    requires most { width ≤ MAX_FINE_WIDTH }
     ensures { OnOk result (segments.new.items ≡ segments.old.items ++ round_segments closed width part.now) }
 {
     let Some((first, rest)) = part.split_first() else {

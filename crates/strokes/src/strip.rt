@@ -2,7 +2,7 @@ ghost use Rattle.std.specs.Prelude.{◌≡◌, ℕ, ◌<◌, ◌≤◌, ◌+◌,
 ghost use Rattle.geom.specs.Device.{DevicePoint, centre, pixel_centre};
 ghost use Rattle.geom.specs.Range.{IsBelow};
 ghost use Rattle.geom.specs.declared.side.TheConstants.{MAX_PICTURE_SIDE};
-ghost use Rattle.mapdefs.specs.declared.limits.TheConstants.{MAX_LINE_WIDTH};
+ghost use Rattle.mapdefs.specs.declared.limits.TheConstants.{MAX_FINE_WIDTH};
 ghost use Rattle.scanfill.specs.Runs.{has_column};
 ghost use Rattle.strokes.specs.Segment.{covers_by_rows, is_between, is_near, is_steep, turned_edge};
 ghost use Rattle.strokes.specs.Strip.{IsStrip, is_small, is_small_point, reached};
@@ -35,10 +35,10 @@ impl Model for Strip {
 }
 
 impl Strip {
-    /// The strip of a steep segment along a small edge. The width is 1 to `MAX_LINE_WIDTH`.
+    /// The strip of a steep segment along a small edge. The width is 1 to `MAX_FINE_WIDTH`.
     pub fn down(edge: Edge, width: u8) -> Self
         requires some { 1 ≤ width }
-        requires most { width ≤ MAX_LINE_WIDTH }
+        requires most { width ≤ MAX_FINE_WIDTH }
         requires small { is_small edge ≡ true }
         requires steep { is_steep edge ≡ true }
         ensures { result ≡ record { edge = edge; width = width } }
@@ -49,7 +49,7 @@ impl Strip {
     /// The strip of any other segment, turned. `None` is one of no length, which covers nothing.
     pub fn across(edge: Edge, width: u8) -> Option<Self>
         requires some { 1 ≤ width }
-        requires most { width ≤ MAX_LINE_WIDTH }
+        requires most { width ≤ MAX_FINE_WIDTH }
         requires small { is_small edge ≡ true }
         requires flat { is_steep edge ≡ false }
         ensures some { IfSome result (λ strip. strip ≡ record { edge = turned_edge edge; width = width }) }
@@ -173,7 +173,7 @@ fn reached(edge: Edge, width: u8, row: u16) -> i64
 
 // Half a width, in sixteenths of a pixel.
 fn half(width: u8) -> i64
-    requires { width ≤ MAX_LINE_WIDTH }
+    requires { width ≤ MAX_FINE_WIDTH }
     ensures value { result ≡ pos (8 * width) }
     ensures range { IsBelow (2 ^ 25) result }
 {

@@ -7,7 +7,7 @@ mod in_window;
 ghost use Rattle.std.specs.Prelude.{◌≡◌, [], ◌∷◌, None, true, false, pos, IfOk};
 ghost use Rattle.mapdefs.specs.declared.layer.Geometry.TheVariants as kind;
 
-use geom::{Coordinate, GREATEST_COORDINATE, LEAST_COORDINATE, Micro, World, WorldBox};
+use geom::{Coordinate, Factor, GREATEST_COORDINATE, LEAST_COORDINATE, Micro, World, WorldBox};
 pub use in_window::InWindow;
 use mapdefs::{Feature, Geometry, Items, Layer, LayerFields, MapFields, SharedItems, Text};
 use std::alloc::{AllocError, Global};
@@ -76,6 +76,7 @@ pub fn map_fields(alloc: Global, layers: Items<Layer>) -> MapFields
       extent = record { minx = pos 0; miny = pos 0; maxx = pos 4000000; maxy = pos 4000000 };
       png = false;
       mercator = false;
+      smoothing = 1;
       font = None;
       symbols = [];
       layers = layers;
@@ -88,6 +89,7 @@ pub fn map_fields(alloc: Global, layers: Items<Layer>) -> MapFields
         extent: WorldBox::new(zero, zero, four, four),
         png: false,
         mercator: false,
+        smoothing: Factor::of(1),
         font: None,
         symbols: SharedItems::empty(),
         layers,

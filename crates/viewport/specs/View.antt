@@ -2,6 +2,7 @@
 use Rattle.std.specs.Prelude.{◌≡◌, ℕ, ◌+◌, ◌*◌, ◌≤◌, ◌&&◌, ◌==◌, int_le, nat_le, if◌then◌else◌, Option, None, Some, List, map, ℤ, pos, neg_ℤ, ◌+ℤ◌, ◌-ℤ◌, ◌*ℤ◌, ◌<ℤ◌, ◌≤ℤ◌, unsigned_abs}
 use Rattle.std.specs.Int.{div_ceil, int_div_euclid}
 use Rattle.geom.specs.Device.{DevicePoint, PixelValue, pixel_of}
+use Rattle.geom.specs.Factor.{IsFactor}
 use Rattle.geom.specs.declared.side.TheConstants.{MAX_PICTURE_SIDE}
 use Rattle.geom.specs.World.{Place, Area, HasPlace, IsExtent}
 use Rattle.mercator.specs.Bound.{northern_bound, southern_bound}
@@ -9,7 +10,6 @@ use Rattle.mercator.specs.Ordinate.{ordinate}
 use Rattle.viewport.specs.declared.heights.Heights.{Heights}
 use Rattle.viewport.specs.declared.heights.Heights.TheVariants as heights
 use Rattle.viewport.specs.declared.fine.Stretch.{Stretch}
-use Rattle.viewport.specs.declared.fine.TheConstants.{MAX_FACTOR}
 
 -- how far north a latitude lies on the picture's scale: as it is, or as its ordinate in web mercator
 unfoldable pub height_of : Heights → ℤ → ℤ
@@ -72,15 +72,6 @@ block_of view across down = record view { left = across.first; top = down.first;
 abbrev pub whole_of : ViewValue → ViewValue
 whole_of view = record view { left = 0; top = 0; width = view.columns; height = view.rows }
 
--- how many pixels of a picture a map's pixel may be, in both directions
-pub record IsFactor (n : ℕ) : Type 0 where
-  pub some : 1 ≤ n
-  pub most : n ≤ MAX_FACTOR
-
--- that factor, if a picture may have it
-abbrev pub factor_by : ℕ → Option ℕ
-factor_by n = if nat_le 1 n && nat_le n MAX_FACTOR then Some n else None
-
 -- a side has so many pixels from one on, and they are some
 pub record IsOnSide (pixels first count : ℕ) : Type 0 where
   pub some : 1 ≤ count
@@ -109,7 +100,7 @@ pub record IsFine (view : ViewValue) (factor : ℕ) : Type 0 where
 -- the one that is so many times as fine, if it may have it
 abbrev pub fine_by : ViewValue → ℕ → Option ViewValue
 fine_by view factor =
-    if view.factor == 1 && (int_le (pos factor) (view.area.maxx -ℤ view.area.minx) && int_le (pos factor) (view.area.maxy -ℤ view.area.miny))
+    if (nat_le 1 factor && view.factor == 1) && (int_le (pos factor) (view.area.maxx -ℤ view.area.minx) && int_le (pos factor) (view.area.maxy -ℤ view.area.miny))
     then Some (fine_view view factor)
     else None
 

@@ -1,54 +1,9 @@
 ghost use Rattle.std.specs.Prelude.{◌≡◌, ◌*◌};
-ghost use Rattle.viewport.specs.View.{IsOnSide, block_of, factor_by, fine_by};
-ghost use Rattle.viewport.specs.declared.fine.TheConstants.{MAX_FACTOR};
+ghost use Rattle.viewport.specs.View.{IsOnSide, block_of, fine_by};
 
 use crate::view::{View, difference};
-use geom::PictureSide;
+use geom::{Factor, PictureSide};
 use std::marker::Model;
-
-/// The most pixels of a fine picture that a map's pixel is, in both directions.
-pub const MAX_FACTOR: u8 = 4;
-
-/// How many times as fine a picture is in both directions: 1 to `MAX_FACTOR`.
-#[derive(Clone, Copy)]
-pub struct Factor {
-    times: u8,
-}
-
-impl Model for Factor {
-    ghost use Rattle.std.specs.Prelude.{ℕ};
-    ghost use Rattle.viewport.specs.View.{IsFactor};
-
-    ghost Value = { ℕ };
-
-    ghost view = { λ f. f.times };
-
-    ghost invariant = { λ f. IsFactor f.times };
-
-    ghost inverse = { λ n. record { times = n } };
-}
-
-impl Factor {
-    ghost use Rattle.viewport.specs.View.{IsFactor};
-
-    /// That factor, if a picture may have it.
-    pub fn new(times: u8) -> Option<Self>
-        ensures { result ≡ factor_by times }
-    {
-        if times == 0 || times > MAX_FACTOR {
-            return None;
-        }
-        Some(Factor { times })
-    }
-
-    /// How many times as fine.
-    pub fn times(self) -> u8
-        ensures value { result ≡ self }
-        ensures limits { IsFactor result }
-    {
-        self.times
-    }
-}
 
 /// So many columns of a picture from one on, or so many rows: as many as a canvas may have.
 #[derive(Clone, Copy)]
@@ -83,7 +38,7 @@ impl Fine {
     {
         let area = view.area();
         let times = i64::from(factor.times());
-        if view.factor() == 1
+        if view.factor().times() == 1
             && times <= difference(area.maxx(), area.minx())
             && times <= difference(area.maxy(), area.miny())
         {

@@ -22,7 +22,7 @@ pub mod laws;
 mod projection;
 mod view;
 
-pub use fine::{Factor, Fine, MAX_FACTOR, Stretch};
+pub use fine::{Fine, Stretch};
 pub use heights::Heights;
 pub use projection::Projection;
 pub use view::{MAX_MARGIN, View};

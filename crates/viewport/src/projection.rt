@@ -7,7 +7,7 @@ use crate::axis::Axis;
 use crate::heights::Heights;
 use crate::view::{View, below, difference, span};
 use geom::{
-    COORDINATE_LIMIT, Coordinate, Device, GREATEST_COORDINATE, LEAST_COORDINATE, Micro,
+    COORDINATE_LIMIT, Coordinate, Device, Factor, GREATEST_COORDINATE, LEAST_COORDINATE, Micro,
     PictureSide, Pixel, World, WorldBox,
 };
 use std::marker::Model;
@@ -91,6 +91,13 @@ impl Projection {
         ensures limits { IsView self.now }
     {
         self.view.rows()
+    }
+
+    /// How many pixels of the picture a map's pixel is, in both directions.
+    pub fn factor(&self) -> Factor
+        ensures { result ≡ self.now.factor }
+    {
+        self.view.factor()
     }
 
     /// How many columns of pixels the canvas has.

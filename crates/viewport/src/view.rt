@@ -5,10 +5,10 @@ ghost use Rattle.geom.specs.World.{IsCoordinate, IsExtent};
 ghost use Rattle.viewport.specs.View.{IsFine, IsOnSide, IsView, block_of, fine_view, plain_view, shown_before, shown_by};
 ghost use Rattle.viewport.specs.declared.view.TheConstants.{MAX_MARGIN};
 
-use crate::fine::{Factor, Stretch};
+use crate::fine::Stretch;
 use crate::heights::Heights;
 use crate::projection::Projection;
-use geom::{Device, Micro, PictureSide, Pixel, World, WorldBox};
+use geom::{Device, Factor, Micro, PictureSide, Pixel, World, WorldBox};
 use std::marker::Model;
 
 /// The most pixels that a window has on each side of the picture.
@@ -26,7 +26,7 @@ pub struct View {
     top: u16,
     width: PictureSide,
     height: PictureSide,
-    factor: u8,
+    factor: Factor,
 }
 
 impl Model for View {
@@ -89,7 +89,7 @@ impl View {
             top: 0,
             width,
             height,
-            factor: 1,
+            factor: Factor::of(1),
         }
     }
 
@@ -108,7 +108,7 @@ impl View {
             top: down.first,
             width: across.count,
             height: down.count,
-            factor: times,
+            factor,
             ..self
         }
     }
@@ -119,7 +119,8 @@ impl View {
     {
         self.heights == other.heights
             && are_same(self.area, other.area)
-            && (self.columns, self.rows, self.factor) == (other.columns, other.rows, other.factor)
+            && (self.columns, self.rows) == (other.columns, other.rows)
+            && self.factor.times() == other.factor.times()
             && (self.left, self.top) == (other.left, other.top)
             && self.width.pixels() == other.width.pixels()
             && self.height.pixels() == other.height.pixels()
@@ -187,9 +188,8 @@ impl View {
     }
 
     /// How many pixels of the picture a map's pixel is, in both directions.
-    pub fn factor(self) -> u8
-        ensures value { result ≡ self.factor }
-        ensures limits { IsView self }
+    pub fn factor(self) -> Factor
+        ensures { result ≡ self.factor }
     {
         self.factor
     }

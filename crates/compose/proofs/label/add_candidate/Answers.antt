@@ -18,7 +18,7 @@ returns-in-Some-shown_anchor c =
     let written : text ≡ label_text classified.layer classified.feature =
     c.label_text-text.ensures.text ∙ ap (λ (l : LayerFields). label_text l c.feature.result.now) c.layer.ensures ∙ ap (λ (f : FeatureFields). label_text classified.layer f) c.feature.ensures in
     let at : shown_anchor scene.view classified.layer.kind classified.feature ≡ Some anchor = sym (rw (c.layer-2.ensures, c.feature-2.ensures) at c.in-Some-shown_anchor.ensures.value) in
-    let entry = rw c.get.ensures.value at c.new.ensures in
+    let entry = rw (c.get.ensures.value, c.factor.ensures) at c.new.ensures in
     let are = candidate-is scene.view scene.map.font c.in-Some._font.now classified c.in-Some-label.label text anchor c.in-Some.ensures labelled written (sym c.is_empty.ensures ∙ c.if-is_empty.false) at in
     on_ok_weaker c.add.result
     (λ more. more ∙ ap (λ (z : List CandidateValue). c.args.labels.now ++ z) (ap (λ (e : CandidateValue). e ∷ []) entry ∙ sym are))

@@ -18,7 +18,7 @@ returns g c =
     let layer = c.layer-layer.result.now in
     let found = c.in_ok-found.found.items in
     let shown = sym c.shows.ensures ∙ c.if-not-shows.false in
-    let margin = c.margin_of-margin.ensures.value ∙ ap (λ symbols. margin_of symbols layer) c.symbols.ensures in
+    let margin = c.margin_of-margin.ensures.value ∙ ap (λ symbols. margin_of c.factor.result symbols layer) c.symbols.ensures ∙ ap (λ factor. margin_of factor scene.map.symbols layer) c.factor.ensures in
     let near = subst (λ (m : MapFields). AreCandidatesOf m c.args.index c.window.result found) c.requires.near c.in_ok-found.ensures in
     let are = rw (c.window.ensures.value, margin) at (candidates-of scene.map c.args.index layer c.window.result found c.layer-layer.ensures near) in
     on_ok_weaker c.draw_features.result

@@ -18,11 +18,11 @@ paint_outline-requires c = record {
 
 pub loop-style-preserved : goal.loop-style-preserved
 loop-style-preserved c =
-    painted_next (polygon_shapes (map (map (device_point c.args.scene.now.view)) c.args.rings.now)) c.args.styles.now c.loop-style.style-index c.style-item.result _ c.loop-style.canvas _
+    painted_next (polygon_shapes c.args.scene.now.view.factor (map (map (device_point c.args.scene.now.view)) c.args.rings.now)) c.args.styles.now c.loop-style.style-index c.style-item.result _ c.loop-style.canvas _
     c.loop-style-test.true c.style-item.is c.loop-style.invariant
     (painted-append c.loop-style.canvas c.fill_rings.new.canvas c.paint_outline.new.canvas _ _ c.in_ok-fill_rings.ensures c.in_ok-paint_outline.ensures)
 
 pub returns : goal.returns
 returns c =
-    painted_end (polygon_shapes (map (map (device_point c.args.scene.now.view)) c.args.rings.now)) c.args.styles.now c.loop-style.style-index c.args.canvas.now c.loop-style.canvas
+    painted_end (polygon_shapes c.args.scene.now.view.factor (map (map (device_point c.args.scene.now.view)) c.args.rings.now)) c.args.styles.now c.loop-style.style-index c.args.canvas.now c.loop-style.canvas
     (omega arith) c.loop-style.invariant

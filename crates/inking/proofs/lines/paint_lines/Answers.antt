@@ -15,10 +15,10 @@ paint_by_style-requires-clause-height c = c.loop-style.invariant.height ∙ c.re
 
 pub loop-style-preserved : goal.loop-style-preserved
 loop-style-preserved c =
-    painted_next (line_shapes (map (map (device_point c.args.scene.now.view)) c.args.parts.now)) c.args.styles.now c.loop-style.style-index c.style-item.result _ c.loop-style.canvas _
+    painted_next (line_shapes c.args.scene.now.view.factor (map (map (device_point c.args.scene.now.view)) c.args.parts.now)) c.args.styles.now c.loop-style.style-index c.style-item.result _ c.loop-style.canvas _
     c.loop-style-test.true c.style-item.is c.loop-style.invariant c.in_ok-paint_by_style.ensures
 
 pub returns : goal.returns
 returns c =
-    painted_end (line_shapes (map (map (device_point c.args.scene.now.view)) c.args.parts.now)) c.args.styles.now c.loop-style.style-index c.args.canvas.now c.loop-style.canvas
+    painted_end (line_shapes c.args.scene.now.view.factor (map (map (device_point c.args.scene.now.view)) c.args.parts.now)) c.args.styles.now c.loop-style.style-index c.args.canvas.now c.loop-style.canvas
     (omega arith) c.loop-style.invariant

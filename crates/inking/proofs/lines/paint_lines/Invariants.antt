@@ -6,4 +6,4 @@ use Rattle.canvas.specs.Painted.{IsPainted}
 use Rattle.inking.proofs.lines.paint_lines.Given as goal
 
 abbrev pub invariant-loop-style : goal.invariant-loop-style
-invariant-loop-style l = IsPainted l.fn.canvas l.canvas (flat_map (line_shapes (map (map (device_point l.scene.view)) l.fn.parts)) (take l.style-index l.styles))
+invariant-loop-style l = IsPainted l.fn.canvas l.canvas (flat_map (line_shapes l.scene.view.factor (map (map (device_point l.scene.view)) l.fn.parts)) (take l.style-index l.styles))

@@ -23,7 +23,7 @@ returns-clause-all c = λ i.
     rw (c.turned.ensures, c.pixel_centre.ensures) at c.right_of-right.ensures.value in
     let all = rw (
       word (2 ^ 52) c.opposite.result (omega arith) c.opposite.ensures.range,
-      word (2 ^ 57) c.reach.result (omega arith) c.reach.ensures.range,
+      word (2 ^ 59) c.reach.result (omega arith) c.reach.ensures.range,
       wide (2 ^ 97) c.right_of-right.result (omega arith) c.right_of-right.ensures.range,
       opposite,
       reach,
@@ -59,4 +59,4 @@ pub near_columns-requires-clause-step : goal.near_columns-requires-clause-step
 near_columns-requires-clause-step c = word-held (2 ^ 52) c.opposite.result (omega arith) c.opposite.ensures.range
 
 pub near_columns-requires-clause-reach : goal.near_columns-requires-clause-reach
-near_columns-requires-clause-reach c = word-held (2 ^ 57) c.reach.result (omega arith) c.reach.ensures.range
+near_columns-requires-clause-reach c = word-held (2 ^ 59) c.reach.result (omega arith) c.reach.ensures.range

@@ -59,7 +59,7 @@ pub near_columns-requires-clause-step : goal.near_columns-requires-clause-step
 near_columns-requires-clause-step c = word-held (2 ^ 52) c.step.result (omega arith) c.step.ensures.range
 
 pub near_columns-requires-clause-reach : goal.near_columns-requires-clause-reach
-near_columns-requires-clause-reach c = word-held (2 ^ 57) c.reach.result (omega arith) c.reach.ensures.range
+near_columns-requires-clause-reach c = word-held (2 ^ 59) c.reach.result (omega arith) c.reach.ensures.range
 
 pub returns-then-from-to-clause-none : goal.returns-then-from-to-clause-none
 returns-then-from-to-clause-none c = λ i j column row out.
@@ -105,7 +105,7 @@ returns-clause-none c = λ i j column row out.
     rw (word (2 ^ 48) c.rise-2.result (omega arith) c.rise-2.ensures.range, c.rise-2.ensures.value) at c.reach.ensures.value in
     let all = rw (
       word (2 ^ 52) c.step.result (omega arith) c.step.ensures.range,
-      word (2 ^ 57) c.reach.result (omega arith) c.reach.ensures.range,
+      word (2 ^ 59) c.reach.result (omega arith) c.reach.ensures.range,
       wide (2 ^ 97) c.min.result (omega arith) nearest,
       wide (2 ^ 97) c.max.result (omega arith) furthest,
       step,

@@ -20,7 +20,7 @@ returns-clause-all c = λ i.
     rw (word (2 ^ 47) c.row_centre.result (omega arith) c.row_centre.ensures.range, c.row_centre.ensures.value) at (sym c.if-not-is_between.ensures) in
     let all = rw (
       word (2 ^ 52) c.step.result (omega arith) c.step.ensures.range,
-      word (2 ^ 57) c.reach.result (omega arith) c.reach.ensures.range,
+      word (2 ^ 59) c.reach.result (omega arith) c.reach.ensures.range,
       wide (2 ^ 97) c.right_of-right.result (omega arith) c.right_of-right.ensures.range,
       step,
       reach,
@@ -45,4 +45,4 @@ pub near_columns-requires-clause-step : goal.near_columns-requires-clause-step
 near_columns-requires-clause-step c = word-held (2 ^ 52) c.step.result (omega arith) c.step.ensures.range
 
 pub near_columns-requires-clause-reach : goal.near_columns-requires-clause-reach
-near_columns-requires-clause-reach c = word-held (2 ^ 57) c.reach.result (omega arith) c.reach.ensures.range
+near_columns-requires-clause-reach c = word-held (2 ^ 59) c.reach.result (omega arith) c.reach.ensures.range

@@ -22,7 +22,7 @@ returns-clause-none c = λ i j column row out.
     let to : pos j *ℤ neg_ℤ (pos 16 *ℤ run e) +ℤ right_of e (pixel_centre (pos last) (pos 0)) ≡ right_of e (pixel_centre (pos last) (pos j)) = right-flat e j last in
     let all = rw (
       word (2 ^ 52) c.opposite.result (omega arith) c.opposite.ensures.range,
-      word (2 ^ 57) c.reach.result (omega arith) c.reach.ensures.range,
+      word (2 ^ 59) c.reach.result (omega arith) c.reach.ensures.range,
       wide (2 ^ 97) c.right_of-least.result (omega arith) c.right_of-least.ensures.range,
       wide (2 ^ 97) c.right_of-most.result (omega arith) c.right_of-most.ensures.range,
       opposite,
@@ -55,4 +55,4 @@ pub near_columns-requires-clause-step : goal.near_columns-requires-clause-step
 near_columns-requires-clause-step c = word-held (2 ^ 52) c.opposite.result (omega arith) c.opposite.ensures.range
 
 pub near_columns-requires-clause-reach : goal.near_columns-requires-clause-reach
-near_columns-requires-clause-reach c = word-held (2 ^ 57) c.reach.result (omega arith) c.reach.ensures.range
+near_columns-requires-clause-reach c = word-held (2 ^ 59) c.reach.result (omega arith) c.reach.ensures.range

@@ -13,7 +13,7 @@ returns-in-Some c =
     let found : c.in-Some.anchors.now ≡ anchors_of c.self.inside.texts c.text.result.now =
     ap (λ (v : Option (List PixelValue)). option_map_or (λ ps. ps) v []) c.in-Some.ensures.value in
     let is : c.in-Some.anchors.now ≡ anchors_with candidate.text placed = found ∙ rw c.text.ensures.value (c.self.invariant candidate.text) in
-    let near = rw (c.anchor.ensures.value, c.label.ensures.value, is) at c.has_near.ensures in
+    let near = rw (c.anchor.ensures.value, c.distance.ensures, is) at c.has_near.ensures in
     rw (← c.self.view_is) (λ h. place-near candidate placed (near.0 h), λ a. near.1 (near-place candidate placed a))
 
 pub returns-in-None : goal.returns-in-None
