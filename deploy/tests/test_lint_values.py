@@ -80,6 +80,11 @@ class Words(unittest.TestCase):
         self.assertEqual(shown("CONFIG 'WMS_FORMATS' 'image/png  image/x-portable-pixmap' CONFIG 'WMS_CRS' 'EPSG:3857'"), [])
         self.assertEqual(shown("CONFIG 'WMS_CRS' 'EPSG:25832'"), ['1: "EPSG:25832" is no value of CONFIG "WMS_CRS", which takes EPSG:3857'])
 
+    def test_smoothing(self):
+        self.assertEqual(shown("CONFIG 'WMS_SMOOTHING' '4' CONFIG WMS_SMOOTHING 1"), [])
+        self.assertEqual(shown("CONFIG 'WMS_SMOOTHING'\n'2.0'"), ['2: "2.0" is no value of CONFIG "WMS_SMOOTHING", which takes 1 or 2 or 3 or 4'])
+        self.assertEqual(len(shown("CONFIG 'WMS_SMOOTHING' '' CONFIG 'WMS_SMOOTHING' '2 3'")), 2)
+
     def test_data_is_a_table_of_points(self):
         self.assertEqual(in_layer("DATA 'a.csv'"), [])
         self.assertIn("a table of points in .csv alone", in_layer("DATA 'a.shp'")[0])
