@@ -12,14 +12,14 @@ ghost use Rattle.administration.specs.Reading.{IsOther};
 ghost use Rattle.administration.specs.Serving.{ArePublished, AreSubmitted, HasAdministered, HasDone, attended, lines_of};
 ghost use Rattle.administration.specs.declared.group.TheConstants.{MAX_GROUP};
 ghost use Rattle.administration.specs.declared.keeping.AdministerFault.TheVariants as fault;
-ghost use Rattle.journalfile.specs.declared.cause.LogCause.{LogCause};
+ghost use Rattle.keepers.specs.declared.cause.LogCause.{LogCause};
 
 use crate::client::Client;
 use crate::done::{Done, send_line};
 use crate::group::{Group, Next, Other, read_group};
 use crate::results::{Front, Results, send_results};
 use crate::serving::publish;
-use journalfile::{Keeps, LogCause};
+use keepers::{Keeps, LogCause};
 use mapshare::{Accepted, Admin, KeepFailed, Retried, Sharing};
 use std::sync::Wait;
 use streams::{BufferedSource, Sink, Source, put_all};

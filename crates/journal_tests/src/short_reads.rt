@@ -1,6 +1,7 @@
 ghost use Rattle.std.specs.Prelude.{[]};
 
-use journalfile::{Log, LogCause};
+use journalfile::Log;
+use keepers::LogCause;
 use std::io::Read;
 
 /// A log in memory. Each read returns so many bytes at most, and the read of a number fails, counted from 0. Nothing is proved of it.

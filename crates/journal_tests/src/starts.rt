@@ -7,9 +7,8 @@ ghost use Rattle.journalfile.specs.Settled.{IsSettled};
 use crate::maps::{shown, two_layers};
 use crate::tape::Tape;
 use journal::{Compaction, JournalName};
-use journalfile::{
-    Checkpoint, CompactedJournal, Journal, Keeps, Log, Recovered, read_name, recover,
-};
+use journalfile::{Checkpoint, CompactedJournal, Journal, Log, Recovered, read_name, recover};
+use keepers::Keeps;
 use mapmachine::Machine;
 use std::alloc::{AllocError, Global};
 use std::slice::from_ref;

@@ -4,7 +4,8 @@ ghost use Rattle.std.specs.Prelude.{◌≡◌, ◌⊎◌, ◌≤◌, true, [], �
 ghost use Rattle.std.proofs.Common.{inl};
 ghost use Rattle.journal_tests.specs.Tape.{IsLeft, WasOnce, only_here};
 
-use journalfile::{Log, LogCause, LogFailure, NotCompacted, ReplaceFault, Replaceable};
+use journalfile::{Log, LogFailure, NotCompacted, ReplaceFault, Replaceable};
+use keepers::LogCause;
 use std::alloc::{AllocError, Global};
 
 /// The tape has stopped.
@@ -12,7 +13,7 @@ use std::alloc::{AllocError, Global};
 pub struct TapeFailed;
 
 impl LogFailure for TapeFailed {
-    ghost use Rattle.journalfile.specs.declared.cause.LogCause.TheVariants.{Full};
+    ghost use Rattle.keepers.specs.declared.cause.LogCause.TheVariants.{Full};
 
     ghost cause = { λ _. Full };
 

@@ -4,7 +4,6 @@ pub mod Searching
 pub mod Standing
 pub mod Replaying
 pub mod Opening
-pub mod Counting
 pub mod Judging
 pub mod Headers
 pub mod Batches

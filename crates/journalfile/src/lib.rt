@@ -12,13 +12,13 @@
 //! given. A `CompactedJournal` is compacted where it has grown: it then has fewer, which lead to the same state as all of them.
 //!
 //! Terms: a log is *settled* where a crash leaves just its bytes. Bytes *stand for* batches where they are their journal, perhaps
-//! with a torn tail. A *keeper* keeps each accepted batch. A journal or a file *has* batches where it stands for these, or for fewer
+//! with a torn tail. A journal or a file *has* batches where it stands for these, or for fewer
 //! that lead to the same state.
 #![tactic(auto)]
 
-mod cause;
 mod checkpoint;
 mod compacting;
+mod failure;
 mod frames;
 mod header;
 mod keeps;
@@ -30,9 +30,8 @@ mod replaceable;
 mod steps;
 mod writing;
 
-pub use cause::{LogCause, LogFailure};
 pub use checkpoint::{Checkpoint, CompactedJournal};
-pub use keeps::{KeepFault, Keeps, Nowhere};
+pub use failure::LogFailure;
 pub use log::Log;
 pub use reading::NotCompacted;
 pub use recovery::{RecoverFault, Recovered, read_name, recover};

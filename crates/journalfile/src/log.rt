@@ -3,7 +3,7 @@
 ghost use Rattle.std.specs.Prelude.{◌≡◌, ◌<◌, ◌≤◌, [], ◌++◌, List, ℕ, length, take, drop, IfOk, OnOk};
 ghost use Rattle.journalfile.specs.Log.{Torn, Cut, Follows, NoOther, Only, Elapses};
 
-use crate::cause::LogFailure;
+use crate::failure::LogFailure;
 
 /// Bytes that grow at their end and outlive a crash, as a file on a disk. Each call may fail. A crash may come at any moment, also
 /// within a call. Each clause holds of a log that is reliable.

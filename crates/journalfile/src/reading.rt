@@ -9,7 +9,7 @@ ghost use Rattle.journal.specs.Record.{journal_of};
 ghost use Rattle.journalfile.specs.Compacting.{HasLeft, HasRead};
 ghost use Rattle.journalfile.specs.Frames.{IsAhead, IsRead};
 
-use crate::cause::{LogCause, LogFailure};
+use crate::failure::LogFailure;
 use crate::frames::{Frames, ReadError};
 use crate::header::read_header;
 use crate::log::Log;
@@ -17,6 +17,7 @@ use crate::records::next_record;
 use crate::recovery::RecoverFault;
 use compaction::LastChanges;
 use journal::JournalName;
+use keepers::LogCause;
 use std::alloc::{AllocError, Global};
 
 /// A journal isn't compacted: memory was refused, a log failed, or a record isn't read that was written.

@@ -1,6 +1,7 @@
 -- The sequence counts the batches that were published.
-use Rattle.std.proofs.Common.{◌≡◌, ℕ, ◌+◌, ◌-◌, ◌^◌, ◌==◌, Bool, true, false, List, [], ◌∷◌, length, Result, Ok, Err, nat_lt, refl, arith}
-use Rattle.batches.specs.Batch.{State, batch, batched}
+use Rattle.std.proofs.Common.{◌≡◌, ℕ, ◌+◌, ◌-◌, ◌^◌, ◌==◌, Bool, true, false, List, [], ◌∷◌, length, Some, Result, Ok, Err, nat_lt, refl, ◌∙◌, arith}
+use Rattle.std.specs.Result.{result_ok}
+use Rattle.batches.specs.Batch.{State, accepted, batch, batched}
 use Rattle.mapdefs.specs.Outcome.{and_then}
 use Rattle.batches.specs.declared.fault.BatchFault.{BatchFault}
 use Rattle.batches.specs.declared.fault.BatchKind.TheVariants.{TooLong, SequenceEnd}
@@ -27,6 +28,14 @@ batch-counts bytes s next e = short (nat_lt MAX_BATCH (length bytes)) refl
     short : (t : Bool) → nat_lt MAX_BATCH (length bytes) ≡ t → next.sequence ≡ s.sequence + 1
     short true h = let clash : Err (record { index = 0; kind = TooLong }) ≡ Ok next = rw h at e in absurd (cc)
     short false h = countable (s.sequence == 2 ^ 64 - 1) h refl
+
+-- so is one that is accepted
+pub accepted_counts : (s next : State) (bytes : List ℕ) → accepted s bytes ≡ Some next → next.sequence ≡ s.sequence + 1
+accepted_counts s next bytes e = result-counts (batched bytes s) refl e
+  where
+    result-counts : (r : Result State BatchFault) → batched bytes s ≡ r → result_ok r ≡ Some next → next.sequence ≡ s.sequence + 1
+    result-counts (Ok t) is e = batch-counts bytes s next (is ∙ cc e)
+    result-counts (Err fault) is e = absurd (cc e)
 
 -- one reply adds as many as it publishes, and those after it theirs
 step-counts : (old next : State) (event : Event) (reply : Reply) (replies : List Reply) → Steps old event reply next →

@@ -16,7 +16,7 @@ use crate::replica::{Replica, ReplicaValue};
 use crate::rule::{MapWriter, Moves, Ruled, Sharing, View};
 use crossbeam_utils::rule::Protocol;
 use history::{History, MAX_HISTORY, Prefix, Shown};
-use journalfile::{KeepFault, Keeps, LogCause, Nowhere};
+use keepers::{KeepFault, Keeps, LogCause, Nowhere};
 use left_right::Absorb;
 use mapmachine::{BatchError, BatchFault, Machine};
 use std::alloc::{AllocError, Global};

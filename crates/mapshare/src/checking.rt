@@ -5,10 +5,10 @@ ghost use mathlib.Core.List.{IsPrefix};
 ghost use Rattle.batches.specs.Batch.{IsBatchErrorOf, batched};
 ghost use Rattle.batches.specs.declared.fault.BatchError.TheVariants.{NoMemory};
 ghost use Rattle.journal.specs.Texts.{texts_of};
-ghost use Rattle.journalfile.specs.declared.keeps.KeepFault.TheVariants as keep_fault;
+ghost use Rattle.keepers.specs.declared.keeps.KeepFault.TheVariants as keep_fault;
 ghost use Rattle.mapshare.specs.Checking.{HasChecked, last_of};
 
-use journalfile::{KeepFault, Keeps};
+use keepers::{KeepFault, Keeps};
 use mapmachine::{BatchError, Machine};
 
 /// How far some batches were accepted.

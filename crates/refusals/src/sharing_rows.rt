@@ -3,7 +3,7 @@ ghost use Rattle.std.specs.Prelude.{◌≡◌};
 use crate::marks::{begin, end};
 use crate::reading::plain_machine;
 use history::Blank;
-use journalfile::Nowhere;
+use keepers::Nowhere;
 use mapmachine::Machine;
 use mapshare::{Admin, KeepFailed, Reader, Retried, Sharing, Submitted, open};
 use std::alloc::{AllocError, Global};

@@ -3,7 +3,8 @@
 ghost use Rattle.std.specs.Prelude.{[]};
 
 use crate::shelf::Counts;
-use journalfile::{Log, LogCause, NotCompacted, ReplaceFault, Replaceable};
+use journalfile::{Log, NotCompacted, ReplaceFault, Replaceable};
+use keepers::LogCause;
 use program::OpenFault;
 use std::alloc::Global;
 use std::io::Read;

@@ -4,7 +4,7 @@ use crate::maps::{machine, shown};
 use crate::memory::{Coming, Going};
 use administration::{AdministerFault, Client, administer_kept};
 use history::Blank;
-use journalfile::{KeepFault, Keeps, LogCause};
+use keepers::{KeepFault, Keeps, LogCause};
 use mapmachine::Machine;
 use mapshare::{Sharing, open};
 use std::alloc::{AllocError, Global};

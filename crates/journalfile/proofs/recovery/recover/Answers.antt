@@ -1,5 +1,7 @@
 use Rattle.std.proofs.Common.{ℕ, ◌+◌, sym, ◌∙◌, ap, ◌≡◌, length, rules}
-use Rattle.journalfile.proofs.Counting.{after_counts}
+use Rattle.batches.specs.Batch.{State, accepted}
+use Rattle.mapmachine.proofs.Counting.{accepted_counts}
+use Rattle.sharing.proofs.Counting.{after_counts}
 use Rattle.journalfile.proofs.Opening.{transient}
 use Rattle.journalfile.proofs.recovery.recover.Goals as goal
 
@@ -11,4 +13,4 @@ returns-in-Err-clause-opens g c =
 pub returns-in-Ok-clause-counted : goal.returns-in-Ok-clause-counted
 returns-in-Ok-clause-counted g c =
     let recovered = c.in-Ok.ensures.recovered in
-    after_counts c.args.machine.now c.open_log.new.machine recovered.batches recovered.after ∙ ap (λ (n : ℕ). c.args.machine.now.sequence + n) (sym recovered.counted)
+    after_counts accepted (λ (s : State). s.sequence) accepted_counts c.args.machine.now c.open_log.new.machine recovered.batches recovered.after ∙ ap (λ (n : ℕ). c.args.machine.now.sequence + n) (sym recovered.counted)

@@ -1,7 +1,5 @@
 //! Why a log isn't read, written or replaced.
 
-ghost use Rattle.std.specs.Prelude.{◌≡◌};
-
 use std::io::{self, ErrorKind};
 
 /// Why a call of a log failed, or a journal isn't compacted.
@@ -42,25 +40,5 @@ impl From<io::Error> for LogCause {
             ErrorKind::OutOfMemory => LogCause::NoMemory,
             _ => LogCause::Other,
         }
-    }
-}
-
-/// A failure of a log.
-pub trait LogFailure {
-    ghost use Rattle.journalfile.specs.declared.cause.LogCause.{LogCause};
-
-    /// Its cause.
-    ghost cause: { Self → LogCause };
-
-    /// Its cause.
-    fn cause(&self) -> LogCause
-        ensures { result ≡ cause self.now };
-}
-
-impl LogFailure for LogCause {
-    ghost cause = { λ c. c };
-
-    fn cause(&self) -> LogCause {
-        *self
     }
 }
