@@ -1,3 +1,4 @@
 pub mod Events
+pub mod Looping
 pub mod Promised
 pub mod Working

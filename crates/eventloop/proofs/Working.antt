@@ -8,7 +8,6 @@ use Rattle.turns.proofs.Ranks.{neither-pending}
 use Rattle.turns.specs.Pressure.{IsFirst, IsWanted, NoneMay, for_room}
 use Rattle.turns.specs.Times.{deadline, is_unanswered}
 use Rattle.turns.specs.declared.pressure.Pressure.{Pressure}
-use Rattle.turns.specs.declared.pressure.Pressure.TheVariants as pressure
 use Rattle.turns.specs.declared.times.Timeouts.{Timeouts}
 use Rattle.httpedge.specs.Exchange.{Said}
 use Rattle.turns.proofs.Lines.{goes-waiting}

@@ -1,2 +1,3 @@
 pub mod HandingOver
 pub mod Working
+pub mod Rounds

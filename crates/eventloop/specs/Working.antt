@@ -92,12 +92,6 @@ HasServedSome {A} {T} answers known turns old new =
     HasTurned answers known turns old new
     ⊎ ((between : WorkerState A T) × HasRunAt answers known turns.now old between × (ready_slots between.table ≡ []) × HasRun answers known between new)
 
--- a worker had no connection, and then made some steps
-pub record HasBeen {A T : Type 0} (answers : A → List ℕ → Said → A → Type 0) (known : Transport T) (table : ConnectionTable T) (asks : A) : Type 0 where
-  pub start : WorkerState A T
-  pub free : (slot : ℕ) → at_slot (connections start.table) slot ≡ None
-  pub ran : HasRun answers known start (record { table = table; asks = asks })
-
 -- the workers of these threads began with these times
 abbrev pub BeganWith : {A T P : Type 0} → Timeouts → List (PromisedHandle (Worker A T P) (HasServed A T P)) → Type 0
 BeganWith times threads = All (λ thread. timeouts_of thread.promise.begun.value.table ≡ times) threads

@@ -1,15 +1,16 @@
-ghost use Rattle.std.specs.Prelude.{◌≡◌, ℕ, None, IfOk, IfSome};
+ghost use Rattle.std.specs.Prelude.{◌≡◌, IfOk, IfSome};
 ghost use Rattle.std.specs.List.{All};
-ghost use Rattle.eventloop.specs.Working.{BeganWith, HasBeen};
-ghost use Rattle.turns.specs.Slots.{at_slot};
-ghost use Rattle.turns.specs.Table.{connections, timeouts_of};
+ghost use Rattle.eventloop.specs.Rounds.{AllFree, HasBeen};
+ghost use Rattle.eventloop.specs.Working.{BeganWith};
+ghost use Rattle.turns.specs.Table.{timeouts_of};
 ghost use Rattle.turns.specs.declared.times.Timeouts.{Timeouts};
 
 use crate::handed_over::Ending;
 use crate::handover::{Handover, MAX_WAITING};
 use crate::poller::{Poller, Wakes};
+use crate::rounds::run;
 use crate::turning_away::turn_away;
-use crate::worker::{Worker, run};
+use crate::worker::Worker;
 use accesslog::EndsEarly;
 use httpedge::Asks;
 use std::alloc::{AllocError, Global};
@@ -17,23 +18,24 @@ use std::rt::Clock;
 use std::snapshot::Snapshot;
 use std::sync::{Arc, Wait};
 use std::thread::{self, Promise, PromisedHandle, Threads, join_promised};
+use std::time::Instant;
 use thiserror::Error;
 use turns::Transport;
 
-/// A worker can't be started: its waker, its thread or memory for it was refused.
+/// A worker can't be started: its waker, its thread or memory for it was refused, or there is no clock.
 #[derive(Clone, Copy, Debug, Error)]
 #[error("a worker can't be started")]
 pub struct WorkerStartError;
 
-/// The promise of a worker's thread: the worker that it gives back has answered its connections, from none on, within the times with
-/// which it began.
+/// The promise of a worker's thread: from none on the worker that it gives back served its connections in rounds, until it was told to end and
+/// had none, within the times with which it began.
 #[derive(Drop)]
 pub struct HasServed<A, T: Drop, P> {
     begun: Snapshot<Worker<A, T, P>>,
 }
 
 impl<A: Asks, T: Transport + Drop, P> Promise<Worker<A, T, P>> for HasServed<A, T, P> {
-    ghost kept_by = { λ promise left. HasBeen A.answers ⟦<T as Transport>⟧ left.table left.asks
+    ghost kept_by = { λ promise left. HasBeen A.answers ⟦<T as Transport>⟧ left
         × (timeouts_of left.table ≡ timeouts_of promise.begun.value.table) };
 }
 
@@ -121,7 +123,7 @@ impl<A: Asks + Drop, T: Transport + EndsEarly + Drop, P: Drop, W: Wakes + Drop> 
     /// Has each worker end, in one way or the other, waits until it has, and gives all back, if there is memory for them.
     pub fn end<R: Wait + Threads>(self, rt: &R, ending: Ending) -> Option<Vec<Worker<A, T, P>>>
         ensures served { IfSome result
-            (λ workers. All (λ worker. HasBeen A.answers ⟦<T as Transport>⟧ worker.table worker.asks) workers.items) }
+            (λ workers. All (λ worker. HasBeen A.answers ⟦<T as Transport>⟧ worker) workers.items) }
         ensures times { (times : Timeouts) → BeganWith times self.threads.items
             → IfSome result (λ workers. All (λ worker. timeouts_of worker.table ≡ times) workers.items) }
     {
@@ -145,11 +147,12 @@ impl<A: Asks + Drop, T: Transport + EndsEarly + Drop, P: Drop, W: Wakes + Drop> 
     }
 }
 
-// A worker that has no connection.
+// A worker that has no connection, and when it begins.
 #[derive(Drop)]
 struct Fresh<A, T: Drop, P> {
     worker: Worker<A, T, P>,
-    ghost free: { (slot : ℕ) → at_slot (connections worker.table) slot ≡ None },
+    start: Instant,
+    ghost free: { AllFree worker.table },
 }
 
 // Runs a worker that has no connection, until it ends.
@@ -164,11 +167,11 @@ where
     T: Transport + EndsEarly + Drop,
     P: Poller<T> + Drop,
     W: Wakes,
-    ensures been { HasBeen A.answers ⟦<T as Transport>⟧ result.table result.asks }
+    ensures been { HasBeen A.answers ⟦<T as Transport>⟧ result }
     ensures times { timeouts_of result.table ≡ timeouts_of fresh.worker.table }
 {
-    let Fresh { worker } = fresh;
-    run(rt, worker, handover)
+    let Fresh { worker, start } = fresh;
+    run(rt, start, worker, handover)
 }
 
 /// Starts one more worker, in a thread of its own.
@@ -183,11 +186,14 @@ where
     A: Asks + Send + Drop + 'static,
     T: Transport + EndsEarly + Send + Drop + 'static,
     P: Poller<T> + Send + Drop + 'static,
-    requires free { (slot : ℕ) → at_slot (connections worker.table) slot ≡ None }
+    requires free { AllFree worker.table }
     ensures began { (times : Timeouts) → BeganWith times workers.old.threads.items → timeouts_of worker.table ≡ times
         → BeganWith times workers.new.threads.items }
 {
     let Some(waker) = worker.waker() else {
+        return Err(WorkerStartError);
+    };
+    let Ok(start) = Instant::now(rt) else {
         return Err(WorkerStartError);
     };
     let Ok((ours, theirs)) = both_ends(alloc, waker) else {
@@ -200,7 +206,7 @@ where
     let promise = HasServed {
         begun: Snapshot::of(&worker),
     };
-    let fresh = Fresh { worker };
+    let fresh = Fresh { worker, start };
     match thread::spawn_with(rt, promise, move || run_whole(&handle, fresh, &theirs)) {
         Ok(thread) => match workers.threads.push(thread) {
             Ok(()) => Ok(()),

@@ -2,6 +2,7 @@
 
 use crate::clients::{Client, NoWaker, TIMEOUTS};
 use crate::fakes::{Notes, Noting, Reporting};
+use accesslog::{Cause, EndsEarly};
 use eventloop::{
     Capacity, Ending, MAX_EVENTS, MAX_OWED_BYTES, MAX_WAITING, Worker, WorkerThreads, start_worker,
     turn_away,
@@ -12,6 +13,7 @@ use std::str;
 use std::sync::{Arc, Mutex, Wait};
 use std::test::Fail;
 use std::thread::Threads;
+use turns::{ReadOutcome, Transport, WriteOutcome};
 
 // Clients in memory never have to wait: there is nothing to report.
 fn unreported(system: &HostRuntime) -> Reporting {
@@ -21,10 +23,12 @@ fn unreported(system: &HostRuntime) -> Reporting {
     }
 }
 
-// Three workers with 4 slots each, and the queries of each.
-fn three_workers<R: AllocGlobal + Clock + Wait + Threads + Send + Copy + Drop + 'static>(
+// So many workers with so many slots each, and the queries of each.
+fn workers_of<R: AllocGlobal + Clock + Wait + Threads + Send + Copy + Drop + 'static>(
     rt: &R,
     system: &HostRuntime,
+    count: usize,
+    slots: usize,
 ) -> Result<
     (
         WorkerThreads<Noting<R>, Client, Reporting, NoWaker>,
@@ -33,9 +37,9 @@ fn three_workers<R: AllocGlobal + Clock + Wait + Threads + Send + Copy + Drop + 
     Fail,
 > {
     let alloc = rt.alloc();
-    let mut workers = WorkerThreads::new(alloc, 3)?;
+    let mut workers = WorkerThreads::new(alloc, count)?;
     let mut all = Vec::new(alloc);
-    for _ in 0..3 {
+    for _ in 0..count {
         let queries = Arc::new(alloc, Mutex::new(Vec::new(alloc)))?;
         let noting = Noting {
             rt: *rt,
@@ -47,7 +51,7 @@ fn three_workers<R: AllocGlobal + Clock + Wait + Threads + Send + Copy + Drop + 
             noting,
             unreported(system),
             Capacity {
-                slots: 4,
+                slots,
                 timeouts: TIMEOUTS,
             },
         )?;
@@ -73,12 +77,14 @@ fn queries_text<R: AllocGlobal + Wait>(rt: &R, all: &[Notes]) -> Result<String, 
     Ok(text)
 }
 
-// The queries that seven connections have for three workers.
+// The queries that seven connections have for so many workers with so many slots, which finish behind the last.
 fn queries_of<R: AllocGlobal + Clock + Wait + Threads + Send + Copy + Drop + 'static>(
     rt: &R,
     system: &HostRuntime,
+    count: usize,
+    slots: usize,
 ) -> Result<String, Fail> {
-    let (mut workers, all) = three_workers(rt, system)?;
+    let (mut workers, all) = workers_of(rt, system, count, slots)?;
     for number in 1..8 {
         let client = asking(rt.alloc(), number)?;
         workers.hand_over(rt, client);
@@ -89,8 +95,15 @@ fn queries_of<R: AllocGlobal + Clock + Wait + Threads + Send + Copy + Drop + 'st
 
 #[test]
 fn connections_go_to_their_workers(rt: HostRuntime) -> Result<(), Fail> {
-    let text = queries_of(&rt, &rt)?;
+    let text = queries_of(&rt, &rt, 3, 4)?;
     assert_eq!(rt; text.as_str(), "36|147|25|");
+    Ok(())
+}
+
+#[test]
+fn connections_that_wait_are_served_before_a_worker_finishes(rt: HostRuntime) -> Result<(), Fail> {
+    let text = queries_of(&rt, &rt, 1, 2)?;
+    assert_eq!(rt; text.as_str(), "1234567|");
     Ok(())
 }
 
@@ -106,6 +119,69 @@ fn a_client_is_turned_away_as_far_as_it_takes_that_at_once(rt: HostRuntime) -> R
     let mut slow = Client::new(alloc, b"", false)?.paced(&[0], &[7, 5, 0]);
     turn_away(&mut slow);
     assert_eq!(rt; slow.out.as_slice(), b"HTTP/1.1 503".as_slice());
+    Ok(())
+}
+
+// A client that notes the kinds of calls on it, each as it follows on another kind.
+#[derive(Drop)]
+struct Calls {
+    kinds: String,
+}
+
+impl Calls {
+    fn note(&mut self, kind: char) {
+        if !self.kinds.as_str().ends_with(kind) {
+            let _ = self.kinds.push(kind);
+        }
+    }
+}
+
+impl Transport for Calls {
+    ghost use Rattle.std.specs.Prelude.{None};
+
+    ghost delivered = { λ _. None };
+
+    ghost accepted = { λ _. None };
+
+    ghost reads = { λ _ _ _. Unit {0} };
+
+    ghost writes = { λ _ _ _. Unit {0} };
+
+    ghost shuts = { λ _ _. Unit {0} };
+
+    fn read(&mut self, _room: &mut [u8]) -> ReadOutcome {
+        self.note('r');
+        ReadOutcome::WouldBlock
+    }
+
+    fn write(&mut self, first: &[u8], second: &[u8]) -> WriteOutcome {
+        self.note('w');
+        let part = if first.is_empty() { second } else { first };
+        match part.len() {
+            0 => WriteOutcome::WouldBlock,
+            count => WriteOutcome::Bytes(count),
+        }
+    }
+
+    fn shut_down(&mut self) {
+        self.note('s');
+    }
+}
+
+impl EndsEarly for Calls {
+    fn note_end(&mut self, _cause: Cause) {
+        self.note('e');
+    }
+}
+
+// A client whose bytes are dropped first would wait for the end of what it is sent.
+#[test]
+fn a_client_is_told_the_end_before_its_bytes_are_dropped(rt: HostRuntime) -> Result<(), Fail> {
+    let mut client = Calls {
+        kinds: String::new(rt.alloc()),
+    };
+    turn_away(&mut client);
+    assert_eq!(rt; client.kinds.as_str(), "wsre");
     Ok(())
 }
 

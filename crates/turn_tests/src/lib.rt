@@ -23,6 +23,8 @@ mod stopping;
 #[cfg(test)]
 mod times;
 #[cfg(test)]
+mod two_workers;
+#[cfg(test)]
 mod waking;
 #[cfg(test)]
 mod ways_out;

@@ -2,7 +2,7 @@ use Rattle.std.proofs.Common.{◌≡◌, ◌<◌, ℕ, length, get_or, true}
 use Rattle.turns.specs.Queue.{has}
 use Rattle.turns.specs.Table.{Goes}
 use Rattle.turns.specs.Table.{Goes, connections, ready_slots}
-use Rattle.eventloop.proofs.worker.wake_all.Given as goal
+use Rattle.eventloop.proofs.rounds.wake_all.Given as goal
 
 -- the slots so far have a turn
 abbrev pub invariant-loop-slot : goal.invariant-loop-slot

@@ -1,6 +1,6 @@
 use Rattle.std.proofs.Common.{◌∙◌}
 use Rattle.eventloop.proofs.Working.{goes-then, woken-next}
-use Rattle.eventloop.proofs.worker.wake_all.Goals as goal
+use Rattle.eventloop.proofs.rounds.wake_all.Goals as goal
 
 pub loop-slot-preserved : goal.loop-slot-preserved
 loop-slot-preserved g c = (
