@@ -28,15 +28,6 @@ impl Blank {
         }
     }
 
-    /// Its prefix that has no batch, without a name.
-    pub fn shown(&self) -> Shown
-        ensures { result ≡ [] }
-    {
-        Shown {
-            seen: self.seen.again(),
-        }
-    }
-
     /// The history under a name, and the prefix that has no batch.
     pub fn named<J: Naming>(self) -> (History<J>, Prefix<J>)
         requires book { self.seen.book ≡ J.book }

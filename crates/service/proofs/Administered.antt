@@ -8,7 +8,7 @@ use Rattle.administration.specs.declared.keeping.AdministerFault.TheVariants.{Pu
 use Rattle.batches.specs.Batch.{State}
 use Rattle.console.specs.Console.{Outcome}
 use Rattle.console.specs.declared.failure.Failure.TheVariants.{JournalFailed}
-use Rattle.journalfile.specs.declared.cause.LogCause.{LogCause}
+use Rattle.keepers.specs.declared.cause.LogCause.{LogCause}
 use Rattle.mapshare.specs.Admin.{Batches}
 use Rattle.mapshare.specs.declared.admin.KeepFailed as keep
 use Rattle.streams.specs.Sent.{IsSent, IsCutSomewhere}

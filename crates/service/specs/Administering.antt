@@ -7,7 +7,7 @@ use Rattle.administration.specs.declared.keeping.AdministerFault.TheVariants.{Pu
 use Rattle.batches.specs.Batch.{State}
 use Rattle.httpedge.specs.declared.edge.EdgeFault.{EdgeFault}
 use Rattle.httpedge.specs.declared.edge.EdgeFault.TheVariants.{Write}
-use Rattle.journalfile.specs.declared.cause.LogCause.{LogCause}
+use Rattle.keepers.specs.declared.cause.LogCause.{LogCause}
 use Rattle.mapshare.specs.Admin.{Batches}
 use Rattle.streams.specs.Sides.{Attended, SidesView}
 

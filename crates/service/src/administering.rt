@@ -10,7 +10,7 @@ use crate::clients::queue_of;
 use accesslog::{LogQueue, LoggedSink};
 use administration::{AdministerFault, Client, administer_kept};
 use httpedge::EdgeFault;
-use journalfile::{Keeps, LogCause};
+use keepers::{Keeps, LogCause};
 use mapshare::{Admin, KeepFailed, Sharing};
 use network::{Accepting, Acceptor, Administrators, Opens, Plan, Port, PortFor, Runtime, Sides};
 use std::alloc::Global;

@@ -1,6 +1,7 @@
 ghost use Rattle.std.specs.List.{All};
 ghost use Rattle.std.specs.Prelude.{◌≡◌, List, IfErr, IfOk, IfSome, MatchOption, Ok, true};
-ghost use Rattle.eventloop.specs.Working.{BeganWith, HasBeen};
+ghost use Rattle.eventloop.specs.Rounds.{HasBeen};
+ghost use Rattle.eventloop.specs.Working.{BeganWith};
 ghost use Rattle.mapshare.specs.Answerer.{reader_answers};
 ghost use Rattle.network.specs.Ports.{HasAccepted, HasCalled, PortEvent};
 ghost use Rattle.network.specs.Announcing.{GoesOnAfter, is_service_failure};
@@ -300,8 +301,8 @@ where
     P: Port<C> + Drop,
     Q: Poller<T> + Send + Drop + 'static,
     ensures ends { GoesOnAfter (Ok tt) result.0 }
-    ensures answered { IfSome result.1 (λ workers. All (λ worker. HasBeen (reader_answers S.opening) ⟦<LoggedTransport<T, R> as Transport>⟧
-        worker.table worker.asks) workers.items) }
+    ensures answered { IfSome result.1 (λ workers. All (λ worker. HasBeen (reader_answers S.opening) ⟦<LoggedTransport<T, R> as Transport>⟧ worker)
+        workers.items) }
     ensures timed { IfSome result.1 (λ workers. All (λ worker. IsTimed side.service (times_of worker.table)) workers.items) }
 {
     let ClientSide {

@@ -1,11 +1,15 @@
-ghost use Rattle.std.specs.Prelude.{◌≡◌, None, Ok, Err};
+ghost use Rattle.std.specs.Prelude.{◌≡◌, [], IsSome, None, Ok, Err};
+ghost use Rattle.batches.specs.Batch.{accepted};
+ghost use Rattle.mapshare.specs.Admin.{all_of};
+ghost use Rattle.sharing.specs.Sharing.{after};
 ghost use Rattle.console.specs.declared.failure.Failure.TheVariants.{NoMemory};
 
 use commandline::Service;
 use console::Failure;
 use history::Shown;
-use journalfile::LogCause;
+use keepers::LogCause;
 use mapmachine::Machine;
+use mapshare::{Admin, Sharing};
 use network::Ports;
 use std::marker::Model;
 use std::snapshot::Snapshot;
@@ -42,13 +46,14 @@ pub struct Served<P, K> {
     outcome: Result<(), Failure>,
     cause: Option<LogCause>,
     last: Snapshot<K>,
-    accepted: Shown,
+    // None where the map wasn't shared.
+    accepted: Option<Shown>,
 }
 
 impl<P, K> Model for Served<P, K> {
     ghost use Rattle.std.specs.Coded.{codes};
     ghost use Rattle.mapdefs.specs.contracts.expr.Expr as expr;
-    ghost use Rattle.service.specs.Serving.{ServedValue};
+    ghost use Rattle.service.specs.Serving.{ServedValue, batches_of};
 
     ghost Value = { ServedValue P K };
 
@@ -63,18 +68,13 @@ impl<P, K> Model for Served<P, K> {
       outcome = s.outcome;
       cause = s.cause;
       last = s.last.value;
-      accepted = s.accepted;
+      accepted = batches_of s.accepted;
     } };
 }
 
 impl<P, K> Served<P, K> {
     // A service that is about to begin, which ends well so far.
-    pub(crate) fn begin<W, Q, I>(
-        machine: &Machine,
-        keeper: &K,
-        ports: &Ports<P, W, Q, I>,
-        accepted: Shown,
-    ) -> Self
+    pub(crate) fn begin<W, Q, I>(machine: &Machine, keeper: &K, ports: &Ports<P, W, Q, I>) -> Self
         ensures { result ≡ record {
           machine = machine.now;
           keeper = keeper.now;
@@ -84,7 +84,7 @@ impl<P, K> Served<P, K> {
           outcome = Ok tt;
           cause = None;
           last = keeper.now;
-          accepted = accepted;
+          accepted = [];
         } }
     {
         Served {
@@ -96,7 +96,7 @@ impl<P, K> Served<P, K> {
             outcome: Ok(()),
             cause: None,
             last: Snapshot::of(keeper),
-            accepted,
+            accepted: None,
         }
     }
 
@@ -110,9 +110,10 @@ impl<P, K> Served<P, K> {
         }
     }
 
-    // The same, with how it ended, the keeper of batches then, and all batches that were accepted.
-    pub(crate) fn ended(self, end: ServiceEnd, last: &K, accepted: Shown) -> Self
-        ensures { result ≡ record self { outcome = end.outcome; cause = end.cause; last = last.now; accepted = accepted } }
+    // The same, with how it ended, the keeper of batches then, and all batches that its administrator accepted.
+    pub(crate) fn ended<S: Sharing>(self, end: ServiceEnd, last: &K, admin: &Admin<S>) -> Self
+        ensures ended { result ≡ record self { outcome = end.outcome; cause = end.cause; last = last.now; accepted = all_of admin.now } }
+        ensures accepted { IsSome (after accepted S.opening (all_of admin.now)) }
     {
         let Self {
             machine,
@@ -131,7 +132,7 @@ impl<P, K> Served<P, K> {
             outcome: end.outcome,
             cause: end.cause,
             last: Snapshot::of(last),
-            accepted,
+            accepted: Some(admin.all()),
         }
     }
 

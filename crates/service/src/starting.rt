@@ -2,6 +2,7 @@
 
 ghost use Rattle.std.specs.Prelude.{◌≡◌, IfErr, true};
 ghost use Rattle.network.specs.Announcing.{is_service_failure};
+ghost use Rattle.network.specs.Ports.{requested};
 
 use crate::administering::Administering;
 use crate::clients::{ClientFlags, ClientSide, serve_clients};
@@ -107,7 +108,12 @@ fn sides_of<N: Network, R>(
     Wakers<N::Waker, N::Input>,
     ClientSide<N::Port, N::Poller, R>,
     Accepting<PortFor<Administrators, N::Port>>,
-) {
+)
+    ensures wakers { (result.0.administration ≡ ports.waker) × (result.0.clients ≡ ports.clients_waker) × (result.0.until ≡ ports.until) }
+    ensures clients { (result.1.port.port ≡ ports.clients) × (result.1.pollers ≡ ports.pollers) × (result.1.service ≡ ports.service) }
+    ensures connections { (result.1.port.remaining ≡ requested ports.service.connections)
+        × (result.2.remaining ≡ requested ports.service.connections) }
+{
     let connections = ports.service.connections;
     let wakers = Wakers {
         administration: ports.waker,

@@ -12,7 +12,7 @@ use crate::served::{Served, ServiceEnd};
 use crate::starting::{Started, start_sides};
 use console::{Failure, Writes};
 use history::Blank;
-use journalfile::Keeps;
+use keepers::Keeps;
 use mapmachine::Machine;
 use mapshare::{Admin, KeepFailed, Reader, ShareFault, Sharing, open};
 use network::{Addresses, Logs, Network, Ports, Runtime, start_log};
@@ -247,7 +247,7 @@ where
         machine,
         mut keeper,
     } = kept;
-    let served = Served::begin(&machine, &keeper, &ports, blank.shown());
+    let served = Served::begin(&machine, &keeper, &ports);
     let workers = usize::from(ports.service.workers);
     match open::<S, R>(rt, blank, &machine, workers) {
         Ok((admin, readers)) => {
@@ -255,9 +255,9 @@ where
             drop(machine);
             let opened = Opened::unlogged(admin, readers, ports);
             let (admin, end) = serve_logged::<S, R, N, K, O>(rt, opened, &mut keeper, output);
-            let accepted = admin.all();
+            let served = served.ended(end, &keeper, &admin);
             admin.close(rt);
-            served.ended(end, &keeper, accepted)
+            served
         }
         // A service has 1 to 32 workers.
         Err(ShareFault::Count) | Err(ShareFault::NoMemory) => { served.unshared() }

@@ -4,15 +4,15 @@ use Rattle.service.proofs.threaded.serve_named.Goals as goal
 
 pub returns-in-Ok-clause-kept : goal.returns-in-Ok-clause-kept
 returns-in-Ok-clause-kept g c batches was other =
-    let (more, all, is) = c.serve_logged-admin.ensures.kept batches was (λ e. other (rw c.ended.ensures e)) in
-    let same = c.all-accepted.ensures.all ∙ (all ∙ ap (λ (b : Batches). all_of b ++ more) (c.unlogged-opened.ensures.0 ∙ c.in-Ok.ensures.admin)) in
-    rw c.ended.ensures (subst (λ (l : List (List ℕ)). g.K.Keeps.keeps c.serve_logged-admin.new.keeper (batches ++ l)) (sym same) is)
+    let (more, all, is) = c.serve_logged-admin.ensures.kept batches was (λ e. other (rw c.ended-served.ensures.ended e)) in
+    let same = all ∙ ap (λ (b : Batches). all_of b ++ more) (c.unlogged-opened.ensures.0 ∙ c.in-Ok.ensures.admin) in
+    rw c.ended-served.ensures.ended (subst (λ (l : List (List ℕ)). g.K.Keeps.keeps c.serve_logged-admin.new.keeper (batches ++ l)) (sym same) is)
 
 pub returns-in-Ok-clause-accepted : goal.returns-in-Ok-clause-accepted
-returns-in-Ok-clause-accepted g c = rw c.ended.ensures c.all-accepted.ensures.accepted
+returns-in-Ok-clause-accepted g c = rw c.ended-served.ensures.ended c.ended-served.ensures.accepted
 
 pub returns-in-Err-Count-clause-kept : goal.returns-in-Err-Count-clause-kept
-returns-in-Err-Count-clause-kept g c batches was other = rw (c.unshared.ensures, c.begin-served.ensures, c.shown.ensures, append-nil batches) was
+returns-in-Err-Count-clause-kept g c batches was other = rw (c.unshared.ensures, c.begin-served.ensures, append-nil batches) was
 
 pub returns-in-Err-Count-clause-accepted : goal.returns-in-Err-Count-clause-accepted
-returns-in-Err-Count-clause-accepted g c = rw (c.unshared.ensures, c.begin-served.ensures, c.shown.ensures) refl
+returns-in-Err-Count-clause-accepted g c = rw (c.unshared.ensures, c.begin-served.ensures) refl
