@@ -1,7 +1,7 @@
 -- The messages on why a journal failed, or isn't compacted (docs/SERVICE.md, "Journal").
 use Rattle.std.specs.Prelude.{ℕ, List, ◌++◌, Option, None, Some, codes}
-use Rattle.journalfile.specs.declared.cause.LogCause.{LogCause}
-use Rattle.journalfile.specs.declared.cause.LogCause.TheVariants as cause
+use Rattle.keepers.specs.declared.cause.LogCause.{LogCause}
+use Rattle.keepers.specs.declared.cause.LogCause.TheVariants as cause
 use Rattle.program.specs.declared.host.OpenFault.{OpenFault}
 use Rattle.program.specs.declared.host.OpenFault.TheVariants as fault
 

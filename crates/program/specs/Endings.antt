@@ -1,6 +1,6 @@
 -- How the program ends (docs/SERVICE.md, "The program").
 use Rattle.std.specs.Prelude.{Option, None, Some, Err}
-use Rattle.journalfile.specs.declared.cause.LogCause.{LogCause}
+use Rattle.keepers.specs.declared.cause.LogCause.{LogCause}
 use Rattle.journalfile.specs.declared.checkpoint.CompactedJournal.{CompactedJournal}
 use Rattle.journalfile.specs.declared.writing.Journal.{Journal}
 use Rattle.service.specs.Serving.{ServedValue}

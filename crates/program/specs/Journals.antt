@@ -26,7 +26,7 @@ use Rattle.mapparse.specs.declared.files.FileBytes.{FileBytes}
 use Rattle.console.specs.Console.{Outcome, WriterState, IsReported}
 use Rattle.console.specs.declared.failure.Failure.{Failure}
 use Rattle.console.specs.declared.failure.Failure.TheVariants as failure
-use Rattle.journalfile.specs.declared.cause.LogCause.{LogCause}
+use Rattle.keepers.specs.declared.cause.LogCause.{LogCause}
 use Rattle.program.specs.Causes.{fault_of_cause}
 use Rattle.program.specs.declared.keeping.JournalFault.{JournalFault}
 use Rattle.program.specs.declared.keeping.JournalFault.TheVariants as fault

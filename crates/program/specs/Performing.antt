@@ -1,15 +1,15 @@
 -- The effects of the program for a command on a host (docs/SERVICE.md, "The program").
-use Rattle.std.specs.Prelude.{◌≡◌, ◌⊎◌, ◌<◌, ◌≤◌, ◌||◌, ◌==◌, ◌++◌, ℕ, Bool, MatchBool, MatchOption, List, [], Option, None, Some, IsSome, option_map, Err}
+use Rattle.std.specs.Prelude.{◌≡◌, ◌⊎◌, ◌<◌, ◌≤◌, ◌||◌, ◌==◌, ◌++◌, ℕ, Bool, MatchBool, MatchOption, List, [], Option, None, Some, IsSome, IfErr, option_map, Err}
 use Rattle.std.specs.Io.KnownBytes.{Keeps}
 use Rattle.commandline.specs.declared.subcommand.Command.{Command}
 use Rattle.commandline.specs.declared.subcommand.Service.{Service}
 use Rattle.commandline.specs.declared.subcommand.Command.TheVariants.{Session, Check, Run, Serve}
 use Rattle.console.specs.Console.{ConsoleState, WriterState, IsReported}
 use Rattle.console.specs.declared.failure.Failure.{Failure}
-use Rattle.console.specs.declared.failure.Failure.TheVariants.{JournalFailed}
+use Rattle.console.specs.declared.failure.Failure.TheVariants.{JournalFailed, ListenFailed}
 use Rattle.batches.specs.Batch.{State, accepted as accepted_by}
 use Rattle.journalfile.specs.Compacting.{next_checkpoint}
-use Rattle.journalfile.specs.declared.cause.LogCause.{LogCause}
+use Rattle.keepers.specs.declared.cause.LogCause.{LogCause}
 use Rattle.journalfile.specs.declared.writing.Journal.{Journal}
 use Rattle.sharing.specs.Sharing.{after}
 use Rattle.mapdefs.specs.declared.map.MapFields.{MapFields}
@@ -74,10 +74,19 @@ by_compacted host = record { keeps = KeepsState host.journal; ended = ended_comp
 abbrev pub ServesNothing : {P L : Type 0} → EndingValue P L → Type 0
 ServesNothing ending = ending ≡ unserved ending.outcome
 
+-- where a port can't be listened on, it is one of these
+abbrev pub NamesPort : (ℕ → Type 0) → Failure → Type 0
+NamesPort these (ListenFailed port cause) = these port
+NamesPort these failure = Unit {0}
+
+-- it is one of the two that were requested
+abbrev pub NamesItsPort : Service → Failure → Type 0
+NamesItsPort service failure = NamesPort (λ port. (port ≡ service.port) ⊎ (port ≡ service.admin_port)) failure
+
 -- a machine was served; or a port of it couldn't be listened on, or memory was refused before
 abbrev pub ServesMachine : {P L K : Type 0} → HostView P L → (HostView P L → Keeping P L K) → Begun K → EndingValue P L → WriterState → WriterState → Type 0
 ServesMachine {P} {L} {K} host keeping begun ending old new =
-    (ServesNothing ending × IsUnserved ending.outcome old new)
+    (ServesNothing ending × IsUnserved ending.outcome old new × IfErr ending.outcome (NamesItsPort begun.service))
     ⊎ ((served : ServedValue P K) × (ending ≡ (keeping host).ended served) × IsServed host (keeping host).keeps begun served old new)
 
 -- a journal before a service, and as it begins: before it is due, it is as it was. Else it is due at twice its bytes, and has the batches that it had, or

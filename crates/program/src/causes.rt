@@ -4,7 +4,7 @@ ghost use Rattle.std.specs.Prelude.{◌≡◌, IfOk, string_bytes};
 ghost use Rattle.program.specs.Causes.{fault_of_cause, uncompacted_line, uncompacted_message};
 
 use crate::host::OpenFault;
-use journalfile::LogCause;
+use keepers::LogCause;
 use std::alloc::{AllocError, Global};
 
 /// The fault of a log that failed as it was served.

@@ -4,7 +4,8 @@ ghost use Rattle.console.specs.Console.{status_of};
 ghost use Rattle.program.specs.Endings.{ended, ended_compacted, unserved, unstarted};
 
 use console::Failure;
-use journalfile::{CompactedJournal, Journal, LogCause};
+use journalfile::{CompactedJournal, Journal};
+use keepers::LogCause;
 use service::Served;
 use std::io::Eprint;
 use std::marker::Model;

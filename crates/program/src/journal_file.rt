@@ -4,7 +4,8 @@ ghost use Rattle.std.specs.Prelude.{[]};
 
 use crate::causes::uncompacted_line;
 use crate::host::OpenFault;
-use journalfile::{Log, LogCause, NotCompacted, ReplaceFault, Replaceable};
+use journalfile::{Log, NotCompacted, ReplaceFault, Replaceable};
+use keepers::LogCause;
 use std::fs::{self, File, OpenOptions, TryLockError};
 use std::io::{self, ErrorKind, Read, Seek, SeekFrom, Write};
 use std::os::unix::fs::MetadataExt;

@@ -3,7 +3,7 @@ ghost use Rattle.console.specs.Console.{LeavesOutput, is_input_failed};
 ghost use Rattle.journal.specs.Name.{IsBounded};
 ghost use Rattle.journalfile.specs.Settled.{GarblesNoRecord, IsSettled};
 ghost use Rattle.program.specs.Journals.{IsOpened, IsUnopened, checkpoint_of, journal_view, map_fingerprint};
-ghost use Rattle.program.specs.Performing.{IsServed, ServesCompacted, ServesJournal, ServesMachine, ServesMap, by_compacted, by_journal, host_view};
+ghost use Rattle.program.specs.Performing.{IsServed, NamesItsPort, NamesPort, ServesCompacted, ServesJournal, ServesMachine, ServesMap, by_compacted, by_journal, host_view};
 ghost use Rattle.subcommands.specs.Session.{opened};
 ghost use Rattle.network.specs.Announcing.{IsUnserved, is_service_failure};
 
@@ -16,7 +16,8 @@ use crate::keeping::{
 use crate::program::Program;
 use commandline::Service;
 use console::{Console, Failure, Writes};
-use journalfile::{Checkpoint, CompactedJournal, Journal, Keeps, Log, LogFailure};
+use journalfile::{Checkpoint, CompactedJournal, Journal, Log, LogFailure};
+use keepers::Keeps;
 use mapdefs::Map;
 use mapmachine::Machine;
 use network::{Network, Port, PortFor, Ports, Runtime, Until};
@@ -57,6 +58,7 @@ fn checkpoint_of(megabytes: u32) -> Checkpoint
 // A port of a host by its number.
 fn listen_on<H: Host>(host: &H, port: u16) -> Result<H::Port, Failure>
     ensures listens { IfOk result (λ p. H.listens host.now port p) }
+    ensures named { IfErr result (NamesPort (λ named. named ≡ port)) }
     ensures failed { IfErr result (λ failure. is_service_failure failure ≡ true) }
 {
     match host.listen(port) {
@@ -68,6 +70,7 @@ fn listen_on<H: Host>(host: &H, port: u16) -> Result<H::Port, Failure>
 // A poller for each of so many workers.
 fn pollers_of<H: Host>(alloc: Global, host: &H, workers: u16) -> Result<Vec<H::Poller>, Failure>
     ensures number { IfOk result (λ pollers. vec_len pollers ≡ workers) }
+    ensures unnamed { IfErr result (NamesPort (λ _. ⊥)) }
     ensures failed { IfErr result (λ failure. is_service_failure failure ≡ true) }
 {
     let mut pollers = Vec::new(alloc);
@@ -89,6 +92,7 @@ fn until_of<H: Host>(
     clients: &H::Port,
 ) -> Result<Option<Until<H::Waker, H::Input>>, Failure>
     ensures asked { IfOk result (λ until. is_some until ≡ service.until_input_ends) }
+    ensures unnamed { IfErr result (NamesPort (λ _. ⊥)) }
     ensures failed { IfErr result (λ failure. is_service_failure failure ≡ true) }
 {
     if !service.until_input_ends {
@@ -111,6 +115,7 @@ fn listen<H: Host>(
     ensures service { IfOk result (λ ports. ports.service ≡ service) }
     ensures pollers { IfOk result (λ ports. vec_len ports.pollers ≡ service.workers) }
     ensures until { IfOk result (λ ports. is_some ports.until ≡ service.until_input_ends) }
+    ensures named { IfErr result (NamesItsPort service) }
     ensures failed { IfErr result (λ failure. is_service_failure failure ≡ true) }
 {
     let clients = listen_on(host, service.port)?;
@@ -144,6 +149,7 @@ impl<R: Runtime, H: Host> Program<'_, R, H> {
             ⟦<H::Log as Log>⟧ self.now.host.now) K.keeps (record { machine = kept.machine; keeper = kept.keeper; service = service }) served
             (⟦<O as Writes>⟧.state output.old) (⟦<O as Writes>⟧.state output.new)) }
         ensures unserved { IfErr result (λ failure. IsUnserved (Err failure) (⟦<O as Writes>⟧.state output.old) (⟦<O as Writes>⟧.state output.new)) }
+        ensures named { IfErr result (NamesItsPort service) }
     {
         let ports = listen(self.rt.alloc(), self.host, service)?;
         Ok(serve_by_threads::<R, H, K, O>(&self.rt, kept, ports, output))
