@@ -94,6 +94,21 @@ class Legends(unittest.TestCase):
         found = [pixels[column, row] for row in (8, 9) for column in (12, 13, 14)]
         self.assertEqual(found, [(1, 2, 3, 255), CLEAR, (4, 5, 6, 255), (7, 8, 9, 255), (10, 11, 12, 255), (13, 14, 15, 255)])
 
+    def test_a_pixmap_of_a_smoothed_map_is_as_large_as_the_map_shows_it(self):
+        # CONFIG as a mapfile may repeat it: of one key the last counts
+        made = self.made("CONFIG 'WMS_SMOOTHING' '4' CONFIG 'WMS_SMOOTHING' '2' CONFIG 'LABELFONT' 'f.bdf'", layer("POINT", "STYLE SYMBOL 's' END"))
+        _, _, pixels = pixels_of(made["layers"]["a"][0]["picture"])
+        # 3 by 2 by factor 2 are 2 by 1: three pixels, of which the second is clear, and two
+        found = [pixels[column, 8] for column in (12, 13, 14, 15)]
+        self.assertEqual(found, [CLEAR, (6, 7, 8, 191), (9, 10, 11, 128), CLEAR])
+
+    def test_a_smoothed_pixmap_lies_above_what_is_below_it(self):
+        style = "STYLE COLOR 40 50 60 SIZE 8 END STYLE SYMBOL 's' END"
+        made = self.made("CONFIG WMS_SMOOTHING 2", layer("POINT", style))
+        _, _, pixels = pixels_of(made["layers"]["a"][0]["picture"])
+        # a share of 191 of 255 of 6 7 8, and of 128 of 9 10 11, over 40 50 60
+        self.assertEqual([pixels[13, 8], pixels[14, 8]], [(15, 18, 21, 255), (24, 30, 35, 255)])
+
     def test_a_line_goes_across(self):
         _, _, pixels = self.picture("LINE", "COLOR 40 50 60 WIDTH 4")
         self.assertEqual(self.covered(pixels, (40, 50, 60)), ((0, 27), (7, 10), 112))
