@@ -133,6 +133,23 @@ class Files(unittest.TestCase):
         self.write("web", "WEB METADATA 'wms_enable_request' '*' END END")
         self.assertEqual(self.run_on(path)[1][-1], "deploy/convert m.map FOLDER makes a map without differences, where MapServer reads this one")
 
+    def smoothed(self, factor, *symbols):
+        """What is shown of a smoothed map with a font of 23 pixels, and symbols of these files."""
+        self.write("f.bdf", "STARTFONT 2.1\nSIZE 20 75 75\nFONTBOUNDINGBOX 9 23 -1 -4\n")
+        self.write("s.ppm", "P6 # 90 90\n7\n11 255\n")
+        images = " ".join(f"SYMBOL NAME '{number}' TYPE PIXMAP\nIMAGE '{image}' END" for number, image in enumerate(symbols))
+        status, lines = self.run_on("--quiet", self.write("m.map", f"MAP CONFIG WMS_SMOOTHING '{factor}'\nCONFIG LABELFONT 'f.bdf' {images} END"))
+        self.assertEqual(status, 0)
+        return lines
+
+    def test_small_fonts_and_symbols_of_a_smoothed_map_get_a_warning(self):
+        font = 'm.map:2: "f.bdf" is 23 pixels high, which WMS_SMOOTHING 3 shows as 7.67: bring one of 24 or more'
+        symbol = 'm.map:3: "s.ppm" is 11 pixels long, which WMS_SMOOTHING 3 shows as 3.67: bring one of 12 or more'
+        self.assertEqual(self.smoothed(3, "s.ppm", "missing.ppm"), [font, symbol, "0 differences, 2 warnings"])
+        self.assertEqual(self.smoothed(3), [font, "0 differences, 1 warning"])
+        for factor in (1, 2):
+            self.assertEqual(self.smoothed(factor, "s.ppm"), ["0 differences"])
+
     def test_a_mapfile_that_cannot_be_read_ends_with_2(self):
         self.assertEqual(self.run_on(os.path.join(self.folder, "missing.map"))[0], 2)
         self.assertEqual(self.run_on()[0], 2)
