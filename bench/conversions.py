@@ -340,7 +340,7 @@ def try_keywords(folder, checks):
     convert, bases = load_convert(), {}
     from mapconvert import fonts
 
-    def write_font(map, alias, size, folder):
+    def write_font(map, alias, size, folder, times):
         """The name of the font and its size, in place of the font, which takes half a second."""
         pathlib.Path(folder, "labels.bdf").write_text(f"{alias} {size}")
         return alias, size, []

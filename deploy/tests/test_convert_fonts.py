@@ -46,6 +46,16 @@ ENDFONT
 """
 
 
+def glyph(name, code, box):
+    return f"STARTCHAR {name}\nENCODING {code}\nBBX {box}\nBITMAP\nENDCHAR\n"
+
+
+LARGE = (
+    "STARTFONT 2.1\nFONTBOUNDINGBOX 120 90 -20 -30\nCHARS 5\n" + glyph("A", 65, "30 40 7 0") + glyph("wide", 64, "65 9 0 0") + glyph("g", 103, "25 36 -3 -11")
+    + glyph("Aring", 197, "30 52 1 0") + glyph("low", 8000, "5 9 0 -65") + "ENDFONT\n"
+)
+
+
 class Letters(unittest.TestCase):
     def test_letters_have_their_dots_without_empty_sides(self):
         self.assertEqual(fonts.letters_of(SMALL), {"0": ["1110", *5 * ["1001"], "1110"], "D": ["11110", *5 * ["10001"], "11110"], " ": []})
@@ -96,9 +106,27 @@ class Sizes(unittest.TestCase):
         self.assertEqual(found[3], ("test_convert_fonts.py", 10, ["lI"]))
 
     def test_why_a_font_is_larger(self):
-        self.assertEqual([fonts.why_larger(8, 8), fonts.why_larger(9.6, 10)], ["", ""])
-        self.assertEqual(fonts.why_larger(6.5, 8), ", where MapServer's has 6.5, as letters below 8 can't be told apart")
-        self.assertEqual(fonts.why_larger(7, 9), ", where MapServer's has 7, as letters are alike at smaller sizes")
+        self.assertEqual([fonts.why_another(8, 8), fonts.why_another(9.6, 10), fonts.why_another(6.4, 6.5, 4)], ["", "", ""])
+        self.assertEqual(fonts.why_another(6.5, 8), ", where MapServer's has 6.5, as letters below 8 can't be told apart")
+        self.assertEqual(fonts.why_another(7, 9), ", where MapServer's has 7, as letters are alike at smaller sizes")
+        self.assertEqual(fonts.why_another(7, 7.25, 4), ", where MapServer's has 7, as letters are alike at smaller sizes")
+        self.assertEqual(fonts.why_another(14, 12, 4), ", where MapServer's has 14, as a glyph has at most 64 pixels a side")
+
+    def test_a_font_for_smoothing_has_mapservers_size_so_many_times(self):
+        asked = []
+        with mock.patch.object(fonts, "best", lambda path, size: asked.append(size) or (size, LARGE, [])), mock.patch.object(fonts.shutil, "which", lambda name: name), \
+                mock.patch.object(fonts, "PLAIN_FONTS", (__file__,)), tempfile.TemporaryDirectory() as folder:
+            found = [fonts.write_font(SimpleNamespace(fontset=SimpleNamespace(filename=None)), None, size, folder, times)[1] for size, times in ((6.4, 4), (7, 3), (13, 4), (30, 2))]
+            with open(f"{folder}/labels.bdf", encoding="latin-1") as file:
+                self.assertEqual(file.read(), fonts.fitted(LARGE))
+        self.assertEqual((asked, found), ([26, 21, 48, 48], [6.5, 7, 12, 24]))
+
+
+class Fitted(unittest.TestCase):
+    def test_glyphs_that_are_too_large_are_left_out(self):
+        # the box is that of A and g: from -3 to 37 across, and from -11 to 40
+        kept = "".join(glyph(*one) for one in (("A", 65, "30 40 7 0"), ("g", 103, "25 36 -3 -11"), ("Aring", 197, "30 52 1 0")))
+        self.assertEqual(fonts.fitted(LARGE), f"STARTFONT 2.1\nFONTBOUNDINGBOX 40 51 -3 -11\nCHARS 3\n{kept}ENDFONT\n")
 
 
 if __name__ == "__main__":

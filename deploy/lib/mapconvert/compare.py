@@ -6,7 +6,7 @@ import subprocess
 import urllib.parse
 
 import mapscript
-from PIL import Image, ImageChops, ImageFilter
+from PIL import Image, ImageChops, ImageFilter, ImageStat
 
 # A pixel differs where no pixel of the 3 by 3 round it in the other picture is as near in each component.
 NEAR = 48
@@ -90,6 +90,12 @@ def difference(one, other):
     plain = ImageChops.lighter(beyond(one, other), beyond(other, one))
     pixels = both.width * both.height
     return both, both.histogram()[255] / pixels, plain.histogram()[255] / pixels
+
+
+def mean_difference(one, other):
+    """The mean of the differences of all channels of all pixels, of 255."""
+    means = ImageStat.Stat(ImageChops.difference(one, other)).mean
+    return sum(means) / len(means)
 
 
 def views(extent, anchors, count):
@@ -256,7 +262,7 @@ def compare(path, made, folder, program, count, side):
         worst, all_of_it = max(worst, plain), max(all_of_it, share)
         picture = os.path.join(folder, f"compare{number}.png")
         side_by_side(wanted, drawn, both).save(picture)
-        lines.append(f"view {number}, {','.join(number_text(side) for side in box)}: {share:.2%} of the pixels differ, {plain:.2%} beyond half-tones, {picture}")
+        lines.append(f"view {number}, {','.join(number_text(side) for side in box)}: {share:.2%} of the pixels differ, {plain:.2%} beyond half-tones, by {mean_difference(wanted, drawn):.2f} in the mean, {picture}")
         if share >= 0.001:
             lines.append(f"  by cause: {causes_of(source, made, program, written, box, size, share)}")
     return lines, worst, all_of_it

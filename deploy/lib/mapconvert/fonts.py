@@ -1,6 +1,7 @@
 """The font of the labels: made by otf2bdf, at a size at which letters that resemble each other differ."""
 import functools
 import os
+import re
 import shutil
 import subprocess
 
@@ -11,6 +12,8 @@ PLAIN_FONTS = ("/usr/share/fonts/truetype/dejavu/DejaVuSans.ttf",)
 SMALLEST = 8
 # So many points more are tried where letters are alike.
 MORE = 4
+# The pixels of a side of a glyph at most, and the points at which no Latin letter of the usual fonts has more.
+LONGEST, LARGEST = 64, 48
 RESEMBLING = ("0O", "0D", "OD", "1l", "1I", "lI")
 # Two letters are stretched to so many dots a side, and are alike where less than this share of the dots differs.
 SIDE, ALIKE = 24, 0.1
@@ -95,22 +98,43 @@ def best(path, size):
     return min(tried, key=lambda one: len(one[2]), default=None)
 
 
-def write_font(map, alias, size, folder):
-    """Writes the font; the file it was made of, its size and its alike pairs, or nothing where there is neither that nor otf2bdf."""
+def sides_of(glyph):
+    """Width, height, and how far the box of a glyph, or of a font, lies right of the pen and above the base line."""
+    return tuple(map(int, re.search(r"^(?:FONTBOUNDING)?B(?:BX|OX) (\d+) (\d+) (-?\d+) (-?\d+)", glyph, re.M).groups()))
+
+
+def fitted(text):
+    """A large BDF font without glyphs that are too large, and as high as its letters of ASCII."""
+    head, *glyphs = re.split(r"^(?=STARTCHAR )", text, flags=re.M)
+    glyphs[-1:] = [glyphs[-1].replace("ENDFONT\n", "")]
+    glyphs = [glyph for glyph in glyphs if all(abs(side) <= LONGEST for side in sides_of(glyph))]
+    boxes = [sides_of(glyph) for glyph in glyphs if (code := re.search(r"^ENCODING (\d+)", glyph, re.M)) and 32 < int(code[1]) < 127]
+    left, bottom = min(box[2] for box in boxes), min(box[3] for box in boxes)
+    width, height = (min(max(box[at] + box[at + 2] for box in boxes) - first, LONGEST) for at, first in ((0, left), (1, bottom)))
+    head = re.sub(r"^FONTBOUNDINGBOX .*$", f"FONTBOUNDINGBOX {width} {height} {left} {bottom}", head, flags=re.M)
+    return re.sub(r"^CHARS .*$", f"CHARS {len(glyphs)}", head, flags=re.M) + "".join(glyphs) + "ENDFONT\n"
+
+
+def write_font(map, alias, size, folder, times=1):
+    """Writes the font, so many times as large; the file it was made of, its size and its alike pairs, or nothing where there is neither that nor otf2bdf."""
     path = path_of_font(map, alias)
     if path is None or not os.path.exists(path):
         path = next((plain for plain in PLAIN_FONTS if os.path.exists(plain)), None)
-    found = best(path, max(SMALLEST, round(size))) if path and shutil.which("otf2bdf") else None
+    points = max(SMALLEST, round(times * size))
+    found = best(path, points if times == 1 else min(points, LARGEST)) if path and shutil.which("otf2bdf") else None
     if found is None:
         return None
     with open(os.path.join(folder, "labels.bdf"), "w", encoding="latin-1") as file:
-        file.write(found[1])
-    return os.path.basename(path), found[0], found[2]
+        file.write(found[1] if times == 1 else fitted(found[1]))
+    return os.path.basename(path), found[0] / times, found[2]
 
 
-def why_larger(size, kept):
-    """Why a font is larger than MapServer's, in words; nothing where it isn't."""
-    if kept <= round(size):
+def why_another(size, kept, times=1):
+    """Why a font has another size than MapServer's, in words; nothing where it hasn't."""
+    wanted = round(times * size) / times
+    if kept < wanted:
+        return f", where MapServer's has {size:g}, as a glyph has at most {LONGEST} pixels a side"
+    if kept == wanted:
         return ""
-    why = f"as letters below {SMALLEST} can't be told apart" if kept == SMALLEST else "as letters are alike at smaller sizes"
+    why = f"as letters below {SMALLEST / times:g} can't be told apart" if kept == SMALLEST / times else "as letters are alike at smaller sizes"
     return f", where MapServer's has {size:g}, {why}"

@@ -22,10 +22,11 @@ def around(middle, box):
 
 
 class Marks:
-    """The pixmaps of a map, each once, in the folder that is written."""
+    """The pixmaps of a map, each once, in the folder that is written, so many times as large as MapServer draws them."""
 
-    def __init__(self, path, folder):
+    def __init__(self, path, folder, times=1):
         self.map = mapscript.mapObj(path)
+        self.resolution, self.times = self.map.resolution, times
         while self.map.numlayers:
             self.map.removeLayer(0)
         self.map.scalebar.status = self.map.legend.status = mapscript.MS_OFF
@@ -35,7 +36,8 @@ class Marks:
         self.folder, self.names = folder, {}
 
     def draw(self, style, side, is_polygon=False):
-        """The picture of a point in the middle of a square, or of a polygon that covers it."""
+        """The picture of a point in the middle of a square, so many times as large, or of a polygon that covers it."""
+        self.map.resolution = self.resolution * (1 if is_polygon else self.times)
         self.map.setSize(side, side)
         self.map.setExtent(-side / 2 + 0.5, -side / 2 + 0.5, side / 2 - 0.5, side / 2 - 0.5)
         layer = mapscript.layerObj(self.map)
@@ -63,6 +65,12 @@ class Marks:
         *colour, alpha = self.draw(style, 64, True).resize((1, 1), Image.Resampling.BOX).getpixel((0, 0))
         own = colour_of(style.color) or "%d %d %d" % tuple(colour)
         return (self.mean_colour(style, below or own), None) if below or alpha >= COVERS else (None, own)
+
+    def is_cut(self, style):
+        """Whether a mark is larger than a pixmap may be."""
+        side = LARGEST - 1
+        left, top, right, bottom = self.draw(style, side).getchannel("A").getbbox() or (1, 1, 1, 1)
+        return left == 0 or top == 0 or right == side or bottom == side
 
     def is_translucent(self, style):
         """Whether most of a mark is neither opaque nor clear."""

@@ -120,6 +120,8 @@ class Styles:
         if symbol is None:
             return None
         self.report.changed(self.place(number, at, "SYMBOL"), f"the mark is the pixmap {symbol}.ppm, as MapServer draws it")
+        if self.marks.is_cut(style):
+            self.report.left_out(self.place(number, at, "SIZE"), "the mark is cut: its pixmap would have more than 256 pixels a side")
         if self.marks.is_translucent(style):
             self.report.left_out(self.place(number, at, "SYMBOL"), "the mark's translucent pixels: they are opaque or clear")
         return [f'SYMBOL "{symbol}"']
