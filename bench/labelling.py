@@ -47,18 +47,25 @@ class Font:
 
 
 class Label:
-    """What a class says of its labels. The position is AUTO."""
+    """What a class says of its labels. A colour that isn't there leaves its part out."""
 
-    def __init__(self, priority, colour, outline=None, buffer=0, distance=0):
+    def __init__(self, priority, colour, outline=None, buffer=0, distance=0, position="AUTO", is_partial=False, is_forced=False):
         self.priority, self.colour, self.outline = priority, colour, outline
         self.buffer, self.distance = buffer, distance
+        self.position, self.is_partial, self.is_forced = position, is_partial, is_forced
 
     def words(self):
+        colour = "%d %d %d" % self.colour if self.colour else "-1 -1 -1"
         outline = "OUTLINECOLOR %d %d %d\n" % self.outline if self.outline else ""
+        more = ("PARTIALS TRUE\n" if self.is_partial else "") + ("FORCE TRUE\n" if self.is_forced else "")
         return (
-            f"LABEL\nCOLOR %d %d %d\n{outline}POSITION AUTO\nPRIORITY {self.priority}\n" % self.colour
-            + f"BUFFER {self.buffer}\nMINDISTANCE {self.distance}\nEND\n"
+            f"LABEL\nCOLOR {colour}\n{outline}POSITION {self.position}\nPRIORITY {self.priority}\n"
+            f"BUFFER {self.buffer}\nMINDISTANCE {self.distance}\n{more}END\n"
         )
+
+    def finer(self, times):
+        """The label on a picture so many times as fine."""
+        return Label(self.priority, self.colour, self.outline, times * self.buffer, times * self.distance, self.position, self.is_partial, self.is_forced)
 
 
 def place(font, size, candidates):
@@ -68,16 +75,16 @@ def place(font, size, candidates):
     for number in order:
         text, anchor, label = candidates[number]
         others = anchors.setdefault(text, [])
-        if any(squared_distance(anchor, other) < label.distance**2 for other in others):
+        if not label.is_forced and any(squared_distance(anchor, other) < label.distance**2 for other in others):
             continue
         width = font.width(text)
         more = label.buffer + (1 if label.outline else 0)
-        for position in AUTO:
+        for position in AUTO if label.position == "AUTO" else [label.position]:
             left, top = corner(position, anchor, width, font.height)
             box = (left - more, top - more, left + width + more, top + font.height + more)
-            if box[0] < 0 or box[1] < 0 or box[2] > size[0] or box[3] > size[1]:
+            if not label.is_partial and (box[0] < 0 or box[1] < 0 or box[2] > size[0] or box[3] > size[1]):
                 continue
-            if any(share(box, other) for cell in cells_of(box) for other in cells.get(cell, [])):
+            if not label.is_forced and any(share(box, other) for cell in cells_of(box) for other in cells.get(cell, [])):
                 continue
             for cell in cells_of(box):
                 cells.setdefault(cell, []).append(box)
@@ -120,7 +127,7 @@ def paint(picture, font, placed):
         if label.outline:
             for i, j in {(x + i, y + j) for x, y in ink for i, j in ROUND}:
                 picture.span(j, i, i + 1, label.outline)
-        for i, j in ink:
+        for i, j in ink if label.colour else []:
             picture.span(j, i, i + 1, label.colour)
 
 

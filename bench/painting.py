@@ -28,12 +28,12 @@ def read_places(mapfile, name):
 
 
 class Picture:
-    """A picture of a box of the world, in millionths of a degree, white at first."""
+    """A picture of a box of the world, in millionths of a degree, of a ground that is white where it isn't given."""
 
-    def __init__(self, box, size):
+    def __init__(self, box, size, ground=(255, 255, 255)):
         self.west, self.south, self.east, self.north = box
         self.width, self.height = size
-        self.rows = [bytearray(b"\xff" * (3 * self.width)) for _ in range(self.height)]
+        self.rows = [bytearray(bytes(ground) * self.width) for _ in range(self.height)]
 
     def bytes(self):
         return b"".join(self.rows)
@@ -76,20 +76,26 @@ class Picture:
         """Draws the closed line along each ring."""
         for ring in rings:
             points = [self.device(place) for place in ring]
-            for a, b in zip(points, points[1:] + points[:1]):
-                self.segment(a, b, colour, width)
-            for point in points:
-                self.square_at(point, width, colour)
+            self.stroke(zip(points, points[1:] + points[:1]), points, colour, width)
 
     def line(self, places, colour, width):
         """Draws the open line along places."""
         points = [self.device(place) for place in places]
-        for a, b in zip(points, points[1:]):
-            self.segment(a, b, colour, width)
+        self.stroke(zip(points, points[1:]), points, colour, width)
+
+    def stroke(self, segments, points, colour, width):
+        # The rows that flat segments cover in each column, as bits: a wide line covers most of them many times.
+        columns = [0] * self.width
+        for a, b in segments:
+            self.segment(a, b, colour, width, columns)
+        for i, covered in enumerate(columns):
+            for j, bit in enumerate(bin(covered)[:1:-1]):
+                if bit == "1":
+                    self.span(j, i, i + 1, colour)
         for point in points:
             self.square_at(point, width, colour)
 
-    def segment(self, a, b, colour, width):
+    def segment(self, a, b, colour, width, columns):
         flat = abs(b[0] - a[0]) >= abs(b[1] - a[1])
         if not flat:
             a, b = (a[1], a[0]), (b[1], b[0])
@@ -97,13 +103,13 @@ class Picture:
         run = x1 - x0
         if run == 0:
             return
-        # Along the axis on which it goes further, centre by centre between its ends.
-        for i in range((x0 + 7) // 16, (x1 - 8) // 16 + 1):
+        # Along the axis on which it goes further, centre by centre between its ends, as far as the picture goes.
+        for i in range(max((x0 + 7) // 16, 0), min((x1 - 8) // 16 + 1, self.width if flat else self.height)):
             across = y0 * run + (16 * i + 8 - x0) * (y1 - y0)
             last = (across + (8 * width - 8) * run) // (16 * run)
             if flat:
-                for j in range(last - width + 1, last + 1):
-                    self.span(j, i, i + 1, colour)
+                first, last = max(last - width + 1, 0), min(last, self.height - 1)
+                columns[i] |= (1 << max(last - first + 1, 0)) - 1 << first
             else:
                 self.span(i, last - width + 1, last + 1, colour)
 
@@ -118,9 +124,13 @@ class Picture:
 
     def stamp(self, place, marks, colour):
         """Stamps a drawing, `#` for the colour, round the pixel of a place."""
+        self.pixmap(place, [[colour if mark == "#" else None for mark in line] for line in marks])
+
+    def pixmap(self, place, rows):
+        """Stamps rows of pixels, each a colour or nothing, round the pixel of a place."""
         across, down = self.device(place)
-        left, top = across // 16 - len(marks[0]) // 2, down // 16 - len(marks) // 2
-        for j, line in enumerate(marks):
-            for i, mark in enumerate(line):
-                if mark == "#":
+        left, top = across // 16 - len(rows[0]) // 2, down // 16 - len(rows) // 2
+        for j, row in enumerate(rows):
+            for i, colour in enumerate(row):
+                if colour is not None:
                     self.span(top + j, left + i, left + i + 1, colour)
