@@ -7,17 +7,18 @@ WORLD is a mapfile whose first layer has the polygons of countries; without it d
 made by rule. both_servers.py has them, starts the servers, and says what that needs. With SCENARIO only those are measured
 whose name begins so.
 
-Both servers are asked over a kept connection, each scenario in turn, and answer pictures as PPM and as PNG. A scenario of
-several pictures asks for all of them in rounds. A figure is what /proc says that the threads of the server's process took,
-with HTTP here and without nginx there; a ratio is that of two figures of the same minute. The last figures are the bytes of
-the PNGs, of several pictures together. An answer of another kind or size ends the script with 1, and so does a click at which
-the two servers find other features.
+The servers are asked over a kept connection, each scenario in turn, and answer pictures as PPM and as PNG. Ours is asked for
+stepped pictures and for those of a map with CONFIG "WMS_SMOOTHING" "4", MapServer for its own, whose edges are smoothed. A
+scenario of several pictures asks for all of them in rounds. A figure is what /proc says that the threads of the server's
+process took, with HTTP here and without nginx there; a ratio is that of two figures of the same minute. Bytes are those of the
+PNGs, of several pictures together: stepped, smoothed and MapServer's. An answer of another kind or size ends the script with
+1, and so does a click at which the servers find other features.
 """
 import pathlib
 import re
 import sys
 
-from both_servers import DEMO, LAYERS, PNG, PPM, as_png, both, degrees_of, metres_of, picture, tiles
+from both_servers import DEMO, LAYERS, PNG, PPM, SMOOTHED, STEPPED, as_png, degrees_of, metres_of, picture, servers, tiles
 from painting_counts import scattered_points
 
 EARTH, TILE, SEA = (-180, -90, 180, 90), (5, 43, 16, 54), (-40, -60, -29, -49)
@@ -92,24 +93,25 @@ def checked(server, queries):
     return bodies
 
 
-def compared(ours, theirs, queries):
-    """The milliseconds of both, and how many times as many ours are; and the bytes of both."""
-    mine, other = checked(ours, queries), checked(theirs, queries)
+def compared(asked, queries):
+    """The milliseconds of each server, and how many times as many as the last one's the others are; and the bytes of each."""
+    bodies = [checked(server, queries) for server in asked]
     if "GetFeatureInfo" in queries[0]:
-        found = [sorted(re.findall(rb"= '(\w+)'", body)) for body in mine + other]
-        if not found[0] or found[0] != found[1]:
+        found = [sorted(re.findall(rb"= '(\w+)'", body)) for answered in bodies for body in answered]
+        if not found[0] or any(one != found[0] for one in found):
             sys.exit(f"another feature at {queries[0]}: {found}")
-    first, second = ours.each(queries, LONG), theirs.each(queries, LONG)
-    return [f"{first:.3f}", f"{second:.2f}", f"{first / second:.3f}"], [sum(map(len, mine)), sum(map(len, other))]
+    *ours, theirs = [server.each(queries, LONG) for server in asked]
+    figures = [f"{theirs:.2f}", *(cell for one in ours for cell in (f"{one:.3f}", f"{one / theirs:.3f}"))]
+    return figures, [sum(map(len, answered)) for answered in bodies]
 
 
-def measured(ours, theirs, queries):
+def measured(stepped, smoothed, theirs, queries):
     """The cells of a scenario."""
-    figures, _ = compared(ours, theirs, queries)
     if "GetMap" not in queries[0]:
-        return [*figures, *[""] * 4]
-    of_png, sizes = compared(ours, theirs, list(map(as_png, queries)))
-    return [*figures, *of_png, f"{sizes[0]:,} and {sizes[1]:,}"]
+        return [*compared([stepped, theirs], queries)[0], *[""] * 8]
+    figures, _ = compared([stepped, smoothed, theirs], queries)
+    of_png, sizes = compared([stepped, smoothed, theirs], list(map(as_png, queries)))
+    return [*figures, *of_png, ", ".join(f"{size:,}" for size in sizes)]
 
 
 def main():
@@ -117,12 +119,13 @@ def main():
         sys.exit(__doc__.split("\n")[2])
     world = pathlib.Path(sys.argv[2] if len(sys.argv) > 2 else DEMO / "world.map").read_text()
     wanted = tuple(sys.argv[3:]) or ("",)
-    with both(sys.argv[1], world, [layer.name for layer in LAYERS]) as (ours, theirs):
-        print("| Scenario | Ours, ms | MapServer, ms | Ours to MapServer's | Ours as PNG | MapServer's | One to the other | Bytes |")
-        print("|---|---|---|---|---|---|---|---|", flush=True)
+    columns = [f"{name}{form}" for form in (", PPM", ", PNG") for name in ("MapServer", "Stepped", "to its", "Smoothed", "to its")]
+    with servers(sys.argv[1], world, [layer.name for layer in LAYERS], [STEPPED, SMOOTHED]) as asked:
+        print(f"| Scenario, ms | {' | '.join(columns)} | Bytes |")
+        print("|---" * (len(columns) + 2) + "|", flush=True)
         for title, queries in [*pictures(), *projected(world), *others()]:
             if title.startswith(wanted):
-                print(f"| {title} | {' | '.join(measured(ours, theirs, queries))} |", flush=True)
+                print(f"| {title} | {' | '.join(measured(*asked, queries))} |", flush=True)
 
 
 if __name__ == "__main__":

@@ -1,4 +1,4 @@
-"""This server and MapServer 8.0 with the same features, for the scripts that compare the two.
+"""This server, without smoothing and with it, and MapServer 8.0 with the same features, for the scripts that compare them.
 
 MapServer has them as shapefiles with an index of their own each (ogr2ogr, shptree), and runs as one FastCGI process behind
 nginx. The built program reads them from its mapfile, and runs with one worker and no proxy. Debian's cgi-mapserver, gdal-bin,
@@ -36,7 +36,10 @@ OUTPUTFORMAT NAME "ppm" DRIVER "GDAL/PNM" MIMETYPE "image/x-portable-pixmap" IMA
 OUTPUTFORMAT NAME "png" DRIVER "AGG/PNG" MIMETYPE "image/png" IMAGEMODE RGB EXTENSION "png" END
 SYMBOL NAME "square" TYPE VECTOR FILLED TRUE POINTS 0 0 1 0 1 1 0 1 0 0 END END
 """
-OURS = f'CONFIG "LABELFONT" "6x13.bdf" CONFIG "WMS_FORMATS" "{PNG}" CONFIG "WMS_CRS" "EPSG:3857"\n'
+OURS = f'CONFIG "WMS_FORMATS" "{PNG}" CONFIG "WMS_CRS" "EPSG:3857"\n'
+# The maps of ours: the font of each, and what else it says. Pixels of the smoothed map's font are fine ones.
+STEPPED, SMOOTHED = "ours.map", "smoothed.map"
+MAPS = {STEPPED: 'CONFIG "LABELFONT" "6x13.bdf"\n', SMOOTHED: 'CONFIG "LABELFONT" "24x52.bdf" CONFIG "WMS_SMOOTHING" "4"\n'}
 NGINX = """pid nginx.pid; error_log error.log; worker_processes 1; daemon off;
 events {{ }}
 http {{ access_log off; client_body_temp_path body; fastcgi_temp_path fastcgi; proxy_temp_path proxy; uwsgi_temp_path uwsgi;
@@ -147,20 +150,22 @@ def layer_block(layer, body, classes):
 
 
 def write_mapfiles(folder, data):
-    """Both mapfiles, of the layers whose data are there, and what they need beside them."""
+    """The mapfiles of ours and MapServer's, of the layers whose data are there, and what they need beside them."""
     layers = [layer for layer in LAYERS if layer.data in data]
     head = f'MAP NAME "bench" EXTENT -180 -90 180 90\n{SERVICE}'
     service = 'METADATA "wms_title" "a" "gml_include_items" "all" "wms_include_items" "all" END PROJECTION "init=epsg:4326" END\n'
     theirs = "".join(layer_block(layer, f'DATA "{layer.data}"\n{service}', layer.theirs) for layer in layers)
     (folder / "bench.map").write_text(f"{head}{MAPSERVER}{theirs}END\n")
     (folder / "fonts.list").write_text("mono /usr/share/fonts/truetype/dejavu/DejaVuSansMono.ttf\n")
-    with open(folder / "ours.map", "w") as file:
-        file.write(f"{head}{OURS}")
-        for layer in layers:
-            features = data[layer.data]
-            file.write(layer_block(layer, f'PROCESSING "ITEMS={features[0][2][0]}"\n' + "".join(inline(features)), layer.ours))
-        file.write("END\n")
-    shutil.copy(DEMO / "6x13.bdf", folder)
+    for name, config in MAPS.items():
+        with open(folder / name, "w") as file:
+            file.write(f"{head}{OURS}{config}")
+            for layer in layers:
+                features = data[layer.data]
+                file.write(layer_block(layer, f'PROCESSING "ITEMS={features[0][2][0]}"\n' + "".join(inline(features)), layer.ours))
+            file.write("END\n")
+    for font in ("6x13.bdf", "24x52.bdf"):
+        shutil.copy(DEMO / font, folder)
 
 
 def free_port():
@@ -228,33 +233,36 @@ def start_mapserver(folder):
     return Server("MapServer", port, process, [nginx])
 
 
-def start_ours(program, folder):
-    words = [program, "serve", "ours.map", "--port", "0", "--admin-port", "0", "--workers", "1", "--idle", "60000"]
+def start_ours(program, folder, name):
+    words = [program, "serve", name, "--port", "0", "--admin-port", "0", "--workers", "1", "--idle", "60000"]
     process = subprocess.Popen(words, cwd=folder, stdout=subprocess.PIPE)
     found = ports_of(process.stdout.readline())
     if not found:
         sys.exit("the program serves nothing")
-    return Server("ours", found[0], process)
+    return Server(name, found[0], process)
 
 
 @contextlib.contextmanager
-def both(program, world, names):
-    """Both servers with the layers of these names, whose countries are those of a mapfile."""
+def servers(program, world, names, maps):
+    """A server of ours for each of these maps, and MapServer, with the layers of these names, whose countries are those of a mapfile."""
     with tempfile.TemporaryDirectory() as name:
         folder = pathlib.Path(name)
         data = data_of(world, {layer.data for layer in LAYERS if layer.name in names})
         write_shapefiles(folder, data)
         write_mapfiles(folder, data)
         del data
-        theirs = start_mapserver(folder)
-        try:
-            ours = start_ours(os.path.abspath(program), folder)
-            try:
-                yield ours, theirs
-            finally:
-                ours.stop()
-        finally:
-            theirs.stop()
+        with contextlib.ExitStack() as stack:
+            theirs = start_mapserver(folder)
+            stack.callback(theirs.stop)
+            started = []
+            for map in maps:
+                started.append(start_ours(os.path.abspath(program), folder, map))
+                stack.callback(started[-1].stop)
+            yield *started, theirs
+
+
+def both(program, world, names):
+    return servers(program, world, names, [STEPPED])
 
 
 def picture(layers, box, size, system="CRS:84"):

@@ -72,8 +72,8 @@ def write_map(folder, side, chosen, symbols, rng):
     for number, rows in enumerate(symbols):
         pixels = bytes(part for row in rows for pixel in row for part in pixel)
         (folder / f"{number}.ppm").write_bytes(b"P6 %d %d 255\n" % (STAMP, STAMP) + pixels)
-    blocks = "".join(f'SYMBOL NAME "{number}" TYPE PIXMAP IMAGE "{number}.ppm" END\n' for number in range(len(symbols)))
-    classes = "".join(f'CLASS EXPRESSION "{number}" STYLE SYMBOL "{number}" END END\n' for number in range(len(symbols)))
+    blocks = "".join(f'SYMBOL NAME "s{number}" TYPE PIXMAP IMAGE "{number}.ppm" END\n' for number in range(len(symbols)))
+    classes = "".join(f'CLASS EXPRESSION "{number}" STYLE SYMBOL "s{number}" END END\n' for number in range(len(symbols)))
     layers = f"LAYER NAME lattice TYPE POLYGON CLASS STYLE COLOR {' '.join(map(str, GROUND))} END END\n{''.join(lattice(rng, side))}END\n"
     layers += f'LAYER NAME noise TYPE POINT PROCESSING "ITEMS=n" CLASSITEM n\n{classes}{"".join(stamps(chosen, side))}END\n'
     (folder / "noise.map").write_text(f'MAP CONFIG WMS_SMOOTHING {FACTOR} CONFIG WMS_FORMATS "image/png"\n{blocks}{layers}END\n')

@@ -1,12 +1,12 @@
 #!/usr/bin/env python3
 """Says how much memory a served map takes while each worker answers the largest picture at once.
 
-Usage: worker_memory.py PROGRAM
+Usage: worker_memory.py PROGRAM [MAPFILE]
 
-The map is that of demo/world.map, the picture the world on 2,048 by 2,048 pixels as a transparent arbitrary map, asked for
-by as many clients as there are workers, which take nothing of it until all are written. For 1, 4, 8, 16 and 32 workers it
-prints the memory that was resident before and at most, and what that is for each worker. It ends with 1 where a picture
-isn't answered.
+The map is that of demo/world.map, or of another MAPFILE with its layers, as the smoothed demo/smooth.map. The picture is the
+world on 2,048 by 2,048 pixels as a transparent arbitrary map, asked for by as many clients as there are workers, which take
+nothing of it until all are written. For 1, 4, 8, 16 and 32 workers it prints the memory that was resident before and at most,
+and what that is for each worker. It ends with 1 where a picture isn't answered.
 """
 import os
 import re
@@ -19,7 +19,7 @@ from served import ports_of
 
 TOP = os.path.dirname(os.path.dirname(os.path.realpath(__file__)))
 QUERY = (
-    "VERSION=1.3.0&REQUEST=GetMap&LAYERS=countries,borders&STYLES=&CRS=CRS:84&BBOX=-180,-90,180,90&WIDTH=2048&HEIGHT=2048"
+    "VERSION=1.3.0&REQUEST=GetMap&LAYERS=countries,borders,ports&STYLES=&CRS=CRS:84&BBOX=-180,-90,180,90&WIDTH=2048&HEIGHT=2048"
     "&FORMAT=image/x-portable-arbitrarymap&TRANSPARENT=TRUE"
 )
 LENGTH = 4 * 2048 * 2048
@@ -44,8 +44,8 @@ def length_of(stream):
     return count
 
 
-def look(program, workers):
-    words = [program, "serve", os.path.join(TOP, "demo", "world.map"), "--port", "0", "--admin-port", "0", "--workers", str(workers)]
+def look(program, mapfile, workers):
+    words = [program, "serve", mapfile, "--port", "0", "--admin-port", "0", "--workers", str(workers)]
     with subprocess.Popen(words, stdout=subprocess.PIPE) as process:
         try:
             port, _ = ports_of(process.stdout.readline())
@@ -63,9 +63,10 @@ def look(program, workers):
 
 
 def main():
-    if len(sys.argv) != 2:
+    if len(sys.argv) not in (2, 3):
         sys.exit(__doc__.split("\n\n")[1])
-    answered = [look(os.path.abspath(sys.argv[1]), workers) for workers in (1, 4, 8, 16, 32)]
+    mapfile = sys.argv[2] if len(sys.argv) == 3 else os.path.join(TOP, "demo", "world.map")
+    answered = [look(os.path.abspath(sys.argv[1]), mapfile, workers) for workers in (1, 4, 8, 16, 32)]
     sys.exit(0 if all(answered) else "a picture wasn't answered")
 
 
