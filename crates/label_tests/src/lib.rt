@@ -3,6 +3,8 @@
 #![tactic(auto)]
 
 #[cfg(test)]
+mod crowded_texts;
+#[cfg(test)]
 mod entries;
 #[cfg(test)]
 mod fonts;
@@ -14,5 +16,7 @@ mod labelled_maps;
 mod labelled_pictures;
 #[cfg(test)]
 mod plain_program;
+#[cfg(test)]
+mod sequences;
 #[cfg(test)]
 mod worked_labels;

@@ -1,5 +1,6 @@
-use crate::entries::{Entry, label_of, placed_of, plain_label, side};
+use crate::entries::{Entry, label_of, placed_of, plain_label};
 use crate::fonts::font_of;
+use crate::sequences::{is_one_of, next, next_position, next_sides};
 use bdffont::{extent, is_short};
 use geom::{Factor, PictureSide, PxBox};
 use labelcache::Placed;
@@ -211,35 +212,6 @@ fn plain(
     Ok(placed)
 }
 
-// The next number of a sequence, from 0 to before the limit.
-fn next(state: &mut u64, limit: i64) -> i64 {
-    *state = state
-        .wrapping_mul(6_364_136_223_846_793_005)
-        .wrapping_add(1_442_695_040_888_963_407);
-    ((*state >> 33) as i64).wrapping_mul(limit) >> 31
-}
-
-// A choice of one in so many.
-fn is_one_of(state: &mut u64, count: i64) -> bool {
-    next(state, count) == 0
-}
-
-// A position, each of them as often, and half as often again the free choice.
-fn next_position(state: &mut u64) -> Position {
-    match next(state, 15) {
-        0 => Position::UpperLeft,
-        1 => Position::UpperCentre,
-        2 => Position::UpperRight,
-        3 => Position::CentreLeft,
-        4 => Position::Centre,
-        5 => Position::CentreRight,
-        6 => Position::LowerLeft,
-        7 => Position::LowerCentre,
-        8 => Position::LowerRight,
-        _ => Position::Automatic,
-    }
-}
-
 // A text. In a font without its characters it has no advance.
 fn next_text(state: &mut u64) -> &'static str {
     match next(state, 8) {
@@ -324,29 +296,22 @@ fn are_same(labels: &[Placed], plain: &[PlainLabel]) -> bool {
             .all(|(label, plain)| is_same(label, plain))
 }
 
-// The two sides of a picture of up to 60 pixels.
-fn next_sides(state: &mut u64) -> (PictureSide, PictureSide) {
-    let (width, height) = (next(state, 60), next(state, 60));
-    (side(width.wrapping_add(1)), side(height.wrapping_add(1)))
-}
-
-// How many labels of some candidates are placed and left out, or none where the plain program says something
-// else.
-fn compared(
+/// How many labels of some candidates are placed and left out, or none where the plain program says something
+/// else.
+pub(crate) fn compared(
     alloc: Global,
     font: &Font,
-    state: &mut u64,
-    text: Option<&'static str>,
+    sides: (PictureSide, PictureSide),
+    entries: &[Entry],
 ) -> Result<Option<(usize, usize)>, AllocError> {
-    let (width, height) = next_sides(state);
+    let (width, height) = sides;
     let ground = Ground {
         width: i64::from(width.pixels()),
         height: i64::from(height.pixels()),
         font,
     };
-    let entries = next_entries(alloc, state, text)?;
-    let labels = placed_of(alloc, width.pixels(), height.pixels(), font, &entries)?;
-    let plain = plain(alloc, &ground, &entries)?;
+    let labels = placed_of(alloc, width.pixels(), height.pixels(), font, entries)?;
+    let plain = plain(alloc, &ground, entries)?;
     if !are_same(&labels, &plain) {
         return Ok(None);
     }
@@ -371,7 +336,9 @@ fn result_of_sets(alloc: Global, row: &str) -> Result<String, AllocError> {
     let mut state = seed.parse::<u64>().unwrap_or(0);
     let (mut placed, mut left_out, mut crowded) = (0_usize, 0_usize, 0_usize);
     for number in 0..500_u16 {
-        match compared(alloc, &font, &mut state, only_text(code))? {
+        let sides = next_sides(&mut state);
+        let entries = next_entries(alloc, &mut state, only_text(code))?;
+        match compared(alloc, &font, sides, &entries)? {
             Some((some, others)) => {
                 placed = placed.saturating_add(some);
                 left_out = left_out.saturating_add(others);
