@@ -17,6 +17,8 @@ mod lines_and_squares;
 #[cfg(test)]
 mod numbers;
 #[cfg(test)]
+mod parallels;
+#[cfg(test)]
 mod pixels;
 #[cfg(test)]
 mod pixmaps;
