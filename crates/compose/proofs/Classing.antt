@@ -2,8 +2,8 @@
 use Rattle.std.proofs.Common.{◌≡◌, Bool, true, false, ◌&&◌, if◌then◌else◌, List, [], ◌∷◌, Option, None, Some, refl}
 use Rattle.std.proofs.lemmas.Bool.{and_parts}
 use Rattle.std.specs.List.{find}
-use Rattle.geom.specs.Scale.{PictureScale}
-use Rattle.mapdefs.specs.Class.{admits}
+use Rattle.scaledenom.specs.Scale.{PictureScale}
+use Rattle.scene.specs.Classes.{admits}
 use Rattle.mapdefs.specs.declared.class.ClassFields.{ClassFields}
 use Rattle.mapdefs.specs.declared.class.Rule.{Rule}
 use Rattle.mapdefs.specs.declared.class.Rule.TheVariants.{Always, Equals, OneOf, Logic}

@@ -7,7 +7,7 @@ use Rattle.std.specs.List.{Contains, flat_map, slice_get}
 use Rattle.std.specs.List.Sorted.{IsStrictlyIncreasing, IsStrictlySortedBy}
 use Rattle.std.specs.Option.{option_map_or}
 use Rattle.geom.specs.Device.{PixelValue}
-use Rattle.mapdefs.specs.Class.{class_of}
+use Rattle.scene.specs.Classes.{class_of}
 use Rattle.mapdefs.specs.Near.{HasBoxIn}
 use Rattle.mapdefs.specs.declared.class.ClassFields.{ClassFields}
 use Rattle.mapdefs.specs.declared.feature.FeatureFields.{FeatureFields}

@@ -7,10 +7,10 @@ use Rattle.std.proofs.lemmas.Option.{slice_get-get_or}
 use Rattle.std.specs.List.{Contains, flat_map, find, list_any}
 use Rattle.std.specs.Option.{is_some, option_map_or}
 use Rattle.std.specs.Prelude.{slice_get}
-use Rattle.geom.specs.Scale.{PictureScale}
+use Rattle.scaledenom.specs.Scale.{PictureScale}
 use Rattle.labelcache.specs.Candidate.{CandidateValue}
 use Rattle.mapdefs.proofs.Containing.{first_or}
-use Rattle.mapdefs.specs.Class.{admits, is_visible_layer}
+use Rattle.scene.specs.Classes.{admits, is_visible_layer}
 use Rattle.mapdefs.specs.Near.{AreCandidates}
 use Rattle.mapdefs.specs.declared.class.ClassFields.{ClassFields}
 use Rattle.mapdefs.specs.declared.feature.FeatureFields.{FeatureFields}

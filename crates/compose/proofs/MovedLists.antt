@@ -7,11 +7,11 @@ use Rattle.std.specs.Option.{option_map_or}
 use Rattle.std.specs.Str.{chars}
 use Rattle.std.specs.Prelude.{pos, slice_get, ℤ, ◌-ℤ◌, ◌*ℤ◌}
 use Rattle.geom.specs.Device.{DevicePoint, PixelValue, pixel_of}
-use Rattle.geom.specs.Scale.{PictureScale}
+use Rattle.scaledenom.specs.Scale.{PictureScale}
 use Rattle.geom.specs.World.{Place}
 use Rattle.labelcache.specs.Candidate.{CandidateValue}
 use Rattle.labelcache.specs.declared.cache.Placed.{Placed}
-use Rattle.mapdefs.specs.Class.{class_of, is_visible_layer}
+use Rattle.scene.specs.Classes.{class_of, is_visible_layer}
 use Rattle.mapdefs.specs.declared.class.ClassFields.{ClassFields}
 use Rattle.mapdefs.specs.declared.colour.Rgb.{Rgb}
 use Rattle.mapdefs.specs.declared.feature.FeatureFields.{FeatureFields}

@@ -12,7 +12,7 @@ use Rattle.geom.specs.Device.{DevicePoint, pixel_centre, pixel_of}
 use Rattle.geom.specs.EvenOdd.{is_inside}
 use Rattle.geom.specs.World.{Place}
 use Rattle.mapdefs.proofs.Containing.{first_or}
-use Rattle.mapdefs.specs.Class.{admits, class_of}
+use Rattle.scene.specs.Classes.{admits, class_of}
 use Rattle.mapdefs.specs.declared.class.ClassFields.{ClassFields}
 use Rattle.mapdefs.specs.declared.colour.Rgb.{Rgb}
 use Rattle.mapdefs.specs.declared.feature.FeatureFields.{FeatureFields}

@@ -4,7 +4,7 @@ use Rattle.std.proofs.lemmas.Nat.{div_below}
 use Rattle.std.proofs.lemmas.Option.{slice_get-get_or}
 use Rattle.std.specs.List.{flat_map}
 use Rattle.std.specs.Prelude.{slice_get}
-use Rattle.geom.specs.Scale.{PictureScale}
+use Rattle.scaledenom.specs.Scale.{PictureScale}
 use Rattle.geom.specs.World.{Area}
 use Rattle.mapdefs.specs.Near.{AreCandidates, AreCandidatesOf}
 use Rattle.mapdefs.specs.declared.layer.LayerFields.{LayerFields}

@@ -14,7 +14,7 @@ use Rattle.smoothing.specs.Fine.{smoothed}
 use Rattle.compose.specs.Blocks.{IsBlockOf}
 use Rattle.compose.proofs.Smoothing.{blocks-have-whole-pixels}
 use Rattle.viewport.specs.declared.fine.Stretch.{Stretch}
-use Rattle.geom.specs.Scale.{PictureScale}
+use Rattle.scaledenom.specs.Scale.{PictureScale}
 use Rattle.labelcache.specs.Candidate.{CandidateValue}
 use Rattle.labelcache.specs.declared.cache.Placed.{Placed}
 use Rattle.mapdefs.specs.declared.map.MapFields.{MapFields}

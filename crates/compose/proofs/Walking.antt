@@ -4,8 +4,8 @@ use Rattle.std.proofs.lemmas.Grind.{flat_map-append}
 use Rattle.std.proofs.lemmas.List.{append-nil}
 use Rattle.std.specs.List.{flat_map, slice_get}
 use Rattle.std.specs.Option.{option_map_or}
-use Rattle.geom.specs.Scale.{PictureScale}
-use Rattle.mapdefs.specs.Class.{class_of, is_visible_layer}
+use Rattle.scaledenom.specs.Scale.{PictureScale}
+use Rattle.scene.specs.Classes.{class_of, is_visible_layer}
 use Rattle.mapdefs.specs.declared.class.ClassFields.{ClassFields}
 use Rattle.mapdefs.specs.declared.feature.FeatureFields.{FeatureFields}
 use Rattle.mapdefs.specs.declared.layer.LayerFields.{LayerFields}

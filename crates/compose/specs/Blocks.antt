@@ -1,7 +1,7 @@
 -- Pictures by blocks: each block has what the whole picture has there (docs/DRAWING.md, "Pictures by blocks").
 use Rattle.std.specs.Prelude.{◌≡◌, ℕ, ◌+◌, ◌*◌, ◌<◌, pos, List, map, ◌++◌, length, replicate, Option, Some, slice_get}
 use Rattle.geom.specs.Device.{PixelValue}
-use Rattle.geom.specs.Scale.{PictureScale}
+use Rattle.scaledenom.specs.Scale.{PictureScale}
 use Rattle.labelcache.specs.Candidate.{CandidateValue}
 use Rattle.labelcache.specs.declared.cache.Placed.{Placed}
 use Rattle.mapdefs.specs.declared.colour.Rgb.{Rgb}

@@ -1,7 +1,7 @@
 -- Classes that all features of a layer have (docs/MAPFILE.md, "Classes").
 use Rattle.std.specs.Prelude.{◌≡◌, Bool, true, false, ◌&&◌, if◌then◌else◌, List, [], ◌∷◌, Option, None, Some}
-use Rattle.geom.specs.Scale.{PictureScale}
-use Rattle.mapdefs.specs.Class.{class_of}
+use Rattle.scaledenom.specs.Scale.{PictureScale}
+use Rattle.scene.specs.Classes.{class_of}
 use Rattle.mapdefs.specs.declared.class.ClassFields.{ClassFields}
 use Rattle.mapdefs.specs.declared.class.Rule.{Rule}
 use Rattle.mapdefs.specs.declared.class.Rule.TheVariants.{Always}

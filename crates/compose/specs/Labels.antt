@@ -5,7 +5,7 @@ use Rattle.std.specs.Option.{is_some, option_map_or}
 use Rattle.std.specs.Str.{chars, encode_utf8_all}
 use Rattle.bdffont.specs.declared.text.TheConstants.{MAX_CHARACTERS}
 use Rattle.geom.specs.Device.{PixelValue}
-use Rattle.geom.specs.Scale.{PictureScale}
+use Rattle.scaledenom.specs.Scale.{PictureScale}
 use Rattle.labelcache.specs.Candidate.{CandidateValue}
 use Rattle.labelcache.specs.Placement.{IsPlacement, setting}
 use Rattle.labelcache.specs.declared.cache.Placed.{Placed}

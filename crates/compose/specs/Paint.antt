@@ -3,8 +3,8 @@ use Rattle.std.specs.Prelude.{ℕ, if◌then◌else◌, List, [], ◌++◌, slic
 use Rattle.std.specs.List.{flat_map}
 use Rattle.std.specs.Option.{option_map_or}
 use Rattle.geom.specs.Device.{DevicePoint}
-use Rattle.geom.specs.Scale.{PictureScale}
-use Rattle.mapdefs.specs.Class.{class_of, is_visible_layer}
+use Rattle.scaledenom.specs.Scale.{PictureScale}
+use Rattle.scene.specs.Classes.{class_of, is_visible_layer}
 use Rattle.mapdefs.specs.declared.class.ClassFields.{ClassFields}
 use Rattle.mapdefs.specs.declared.feature.FeatureFields.{FeatureFields}
 use Rattle.mapdefs.specs.declared.layer.Geometry.{Geometry}

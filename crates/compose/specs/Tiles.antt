@@ -2,7 +2,7 @@
 use Rattle.std.specs.Prelude.{List, ◌≡◌, ℕ, ◌+◌, ◌*◌, ◌<◌, ◌≤◌, length, Option, Some, slice_get}
 use Rattle.geom.specs.Side.{IsPictureSide}
 use Rattle.mapdefs.specs.declared.colour.Rgb.{Rgb}
-use Rattle.geom.specs.Scale.{PictureScale}
+use Rattle.scaledenom.specs.Scale.{PictureScale}
 use Rattle.labelcache.specs.declared.cache.Placed.{Placed}
 use Rattle.mapdefs.specs.declared.map.MapFields.{MapFields}
 use Rattle.viewport.specs.View.{ViewValue}

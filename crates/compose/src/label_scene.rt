@@ -2,7 +2,7 @@ ghost use Rattle.std.specs.Prelude.{◌≡◌, All, IfOk, length, slice_get, Som
 ghost use Rattle.std.specs.Option.{option_copied};
 ghost use Rattle.geom.specs.Device.{pixel_of};
 ghost use Rattle.labelcache.specs.Candidate.{IsTextCorner};
-ghost use Rattle.mapdefs.specs.Class.{class_of, is_visible_layer};
+ghost use Rattle.scene.specs.Classes.{class_of, is_visible_layer};
 ghost use Rattle.viewport.specs.View.{IsView, device_point, whole_of, window};
 ghost use Rattle.compose.specs.Labels.{ArePlaced};
 

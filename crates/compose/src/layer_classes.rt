@@ -1,6 +1,6 @@
 ghost use Rattle.std.specs.Prelude.{◌≡◌};
 ghost use Rattle.std.specs.Option.{option_copied};
-ghost use Rattle.mapdefs.specs.Class.{class_of};
+ghost use Rattle.scene.specs.Classes.{class_of};
 ghost use Rattle.compose.specs.Classes.{common_class, takes_all};
 
 use mapdefs::{ClassFields, FeatureFields, LayerFields, Rule};

@@ -3,8 +3,9 @@ use Rattle.std.proofs.Common.{Bor, ◌≡◌, ℕ, ◌<◌, Bool, true, false, L
 use Rattle.std.specs.Prelude.{Option, None, Some, MatchOption, Err}
 use Rattle.std.specs.List.{position_or_len, before_first, after_first}
 use Rattle.std.proofs.lemmas.List.Splits.{slice_split_first, length-slice_split}
-use Rattle.crsaxes.specs.Axes.{is_comma, parts, box_of_parts}
+use Rattle.crsaxes.specs.Axes.{is_comma, metres_across, parts, box_of_parts}
 use Rattle.crsaxes.specs.declared.crs.Crs.{Crs}
+use Rattle.crsaxes.specs.declared.crs.Crs.TheVariants.{Crs84, Epsg3857, Epsg4326}
 use Rattle.crsaxes.specs.declared.fault.AxisFault.TheVariants.{NotFour}
 
 -- at the first comma a text falls into the part before it and the parts after it
@@ -25,12 +26,16 @@ parts-one [] h = refl
 parts-one (b ∷ bs) h = parts-one_more b bs (is_comma b) refl h (parts-one bs)
 
 -- where a further part follows four, there are not four
-pub parts-five : (crs : Crs) (a b c d : List ℕ) (text : List ℕ) → box_of_parts crs (a ∷ b ∷ c ∷ d ∷ parts text) ≡ Err NotFour
-parts-five crs a b c d text = some (parts text) (omega (arith, length-slice_split is_comma text))
+pub parts-five : (crs : Crs) (a b c d : List ℕ) (text : List ℕ) →
+    (box_of_parts crs (a ∷ b ∷ c ∷ d ∷ parts text) ≡ Err NotFour) × (metres_across crs (a ∷ b ∷ c ∷ d ∷ parts text) ≡ None)
+parts-five crs a b c d text = some crs (parts text) (omega (arith, length-slice_split is_comma text))
   where
-    some : (others : List (List ℕ)) → 0 < length others → box_of_parts crs (a ∷ b ∷ c ∷ d ∷ others) ≡ Err NotFour
-    some [] h = absurd (omega arith)
-    some (e ∷ es) h = refl
+    some : (crs : Crs) (others : List (List ℕ)) → 0 < length others →
+        (box_of_parts crs (a ∷ b ∷ c ∷ d ∷ others) ≡ Err NotFour) × (metres_across crs (a ∷ b ∷ c ∷ d ∷ others) ≡ None)
+    some crs [] h = absurd (omega arith)
+    some Crs84 (e ∷ es) h = (refl, refl)
+    some Epsg4326 (e ∷ es) h = (refl, refl)
+    some Epsg3857 (e ∷ es) h = (refl, refl)
 
 -- a search for the first comma finds the first part of a text
 pub next-part : (text : List ℕ) (r : Option (Bor (List ℕ) × Bor (List ℕ))) →

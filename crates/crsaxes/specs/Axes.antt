@@ -1,5 +1,5 @@
 -- Coordinate reference systems and their axis orders (OGC 06-042, 7.3; docs/WMS.md, "Axis order").
-use Rattle.std.specs.Prelude.{◌≡◌, ℕ, Bool, ◌==◌, ◌&&◌, nat_eq, if◌then◌else◌, List, [], ◌∷◌, ◌*◌, ℤ, pos, int_lt, unsigned_abs, Option, None, Some, Result, Ok, Err, codes}
+use Rattle.std.specs.Prelude.{◌≡◌, ℕ, Bool, ◌==◌, ◌&&◌, nat_eq, if◌then◌else◌, List, [], ◌∷◌, ◌*◌, ℤ, pos, ◌-ℤ◌, int_lt, unsigned_abs, Option, None, Some, Result, Ok, Err, codes}
 use Rattle.std.specs.List.{slice_split}
 use Rattle.std.specs.Option.{option_map, option_map_or}
 use Rattle.std.specs.Cmp.Lexicographic.{pointwise}
@@ -36,11 +36,15 @@ with_area area = if int_lt area.minx area.maxx && int_lt area.miny area.maxy the
 abbrev pub equator_of : ℤ → ℤ
 equator_of metres = signed (int_lt metres (pos 0)) (nearest (45000000000 * unsigned_abs metres) 5009377085697311)
 
+-- an easting or a northing that a text means, in millionths of a metre
+abbrev pub metres_of : List ℕ → Option ℤ
+metres_of text = result_ok (reading text METRE_LIMIT)
+
 -- the value of an axis that a text means: degrees, and in web mercator metres that count as degrees of the equator
 abbrev pub axis_of : Crs → List ℕ → Option ℤ
 axis_of Crs84 text = coordinate_of text
 axis_of Epsg4326 text = coordinate_of text
-axis_of Epsg3857 text = option_map equator_of (result_ok (reading text METRE_LIMIT))
+axis_of Epsg3857 text = option_map equator_of (metres_of text)
 
 -- the box of the least values of both axes and the greatest: CRS:84 has the longitude first, EPSG:4326 the latitude, EPSG:3857 the easting
 abbrev pub box_in : Crs → ℤ → ℤ → ℤ → ℤ → Area
@@ -61,6 +65,16 @@ box_of_parts crs _ = Err NotFour
 -- the box that a text means in the system of a name, or the first fault
 abbrev pub bbox : Bool → List ℕ → List ℕ → Result Area AxisFault
 bbox mercator name text = option_map_or (λ crs. box_of_parts crs (parts text)) (crs_of mercator name) (Err UnknownCrs)
+
+-- the distance from one easting to another
+abbrev pub distance : Option ℤ → Option ℤ → Option ℕ
+distance (Some west) (Some east) = Some (unsigned_abs (east -ℤ west))
+distance _ _ = None
+
+-- how wide the box of some parts is in millionths of a metre, if its system is in metres: the difference of the two eastings as they are read
+abbrev pub metres_across : Crs → List (List ℕ) → Option ℕ
+metres_across Epsg3857 (a ∷ b ∷ c ∷ d ∷ []) = distance (metres_of a) (metres_of c)
+metres_across _ _ = None
 
 -- the law that EPSG:4326 has latitudes where CRS:84 has longitudes, and the other way round
 abbrev pub AxesAreExchanged : Type 0

@@ -1,14 +1,16 @@
-ghost use Rattle.std.specs.Prelude.{◌≡◌, ◌<◌, [], ◌∷◌, length, Some, Err, IfOk, MatchOption};
+ghost use Rattle.std.specs.Prelude.{◌≡◌, ◌<◌, [], ◌∷◌, ◌-ℤ◌, unsigned_abs, length, None, Some, Err, IfOk, MatchOption};
 ghost use Rattle.std.specs.List.{position_or_len, before_first, after_first};
+ghost use Rattle.geom.specs.Range.{IsWithin};
 ghost use Rattle.geom.specs.World.{IsExtent};
-ghost use Rattle.crsaxes.specs.Axes.{is_comma, parts, box_of, box_of_parts, bbox};
+ghost use Rattle.crsaxes.specs.Axes.{is_comma, parts, box_of, box_of_parts, metres_across, bbox};
 ghost use Rattle.crsaxes.specs.declared.crs.Crs.{Crs as System};
 ghost use Rattle.crsaxes.specs.declared.fault.AxisFault.TheVariants.{NotFour};
+ghost use Rattle.crsaxes.specs.declared.metres.TheConstants.{METRE_LIMIT};
 
 use crate::crs::{Crs, crs_of};
 use crate::fault::AxisFault;
-use crate::metres::axis_of;
-use geom::{Coordinate, WorldBox};
+use crate::metres::{axis_of, metres_of};
+use geom::{Coordinate, Micro, WorldBox};
 
 // The parts before and after the first comma; none without a comma.
 fn split_comma(text: &str) -> Option<(&str, &str)>
@@ -30,7 +32,7 @@ fn split_part(text: &str) -> Option<(&str, &str)>
 // The four parts of a text between commas, if it has four.
 fn four_parts(text: &str) -> Option<(&str, &str, &str, &str)>
     ensures { MatchOption result
-        ((crs : System) → box_of_parts crs (parts text.now) ≡ Err NotFour)
+        ((crs : System) → (box_of_parts crs (parts text.now) ≡ Err NotFour) × (metres_across crs (parts text.now) ≡ None))
         (λ p. parts text.now ≡ p.0.now ∷ p.1.now ∷ p.2.now ∷ p.3.now ∷ []) }
 {
     let (a, rest) = split_part(text)?;
@@ -95,6 +97,30 @@ impl Crs {
             _ => Err(AxisFault::NotANumber),
         }
     }
+
+    /// How wide the box that a text of four coordinates means is, in millionths of a metre, where the system is in
+    /// metres: the difference of its eastings as they are read, before they count as degrees. `None` where the system
+    /// is in degrees, or the text has no four coordinates. It takes no memory.
+    pub fn metres_across(self, text: &str) -> Option<u64>
+        ensures { result ≡ metres_across self (parts text.now) }
+    {
+        match self {
+            Crs::Crs84 | Crs::Epsg4326 => None,
+            Crs::Epsg3857 => {
+                let (west, _, east, _) = four_parts(text)?;
+                Some(distance(metres_of(west)?, metres_of(east)?))
+            }
+        }
+    }
+}
+
+// The distance from one easting to another.
+fn distance(west: Micro, east: Micro) -> u64
+    requires west { IsWithin METRE_LIMIT west }
+    requires east { IsWithin METRE_LIMIT east }
+    ensures { result ≡ unsigned_abs (east -ℤ west) }
+{
+    (east.millionths() - west.millionths()).unsigned_abs()
 }
 
 /// The box that a text means in the system of a name (`Crs::bbox`). `UnknownCrs`, where no known system has

@@ -1,7 +1,7 @@
-ghost use Rattle.std.specs.Prelude.{◌≡◌, ◌≤◌, ◌*◌, pos, ◌≤ℤ◌};
+ghost use Rattle.std.specs.Prelude.{◌≡◌, ◌≤◌, ◌*◌, pos, ◌≤ℤ◌, IfSome};
 ghost use Rattle.geom.specs.Decimal.{nearest};
 ghost use Rattle.geom.specs.Range.{IsWithin};
-ghost use Rattle.crsaxes.specs.Axes.{axis_of, equator_of};
+ghost use Rattle.crsaxes.specs.Axes.{axis_of, equator_of, metres_of};
 ghost use Rattle.crsaxes.specs.Metres.{metres_down, metres_up};
 ghost use Rattle.crsaxes.specs.declared.metres.TheConstants.{METRE_LIMIT};
 
@@ -17,10 +17,21 @@ pub fn axis_of(crs: Crs, text: &str) -> Option<Coordinate>
 {
     match crs {
         Crs::Crs84 | Crs::Epsg4326 => Coordinate::read(text),
-        Crs::Epsg3857 => match Micro::read(text.as_bytes(), METRE_LIMIT) {
-            Ok(metres) => Some(equator_of(metres)),
-            Err(_) => None,
+        Crs::Epsg3857 => match metres_of(text) {
+            Some(metres) => Some(equator_of(metres)),
+            None => None,
         },
+    }
+}
+
+/// An easting or a northing that a text means, in millionths of a metre.
+pub fn metres_of(text: &str) -> Option<Micro>
+    ensures value { result ≡ metres_of text.now }
+    ensures within { IfSome result (IsWithin METRE_LIMIT) }
+{
+    match Micro::read(text.as_bytes(), METRE_LIMIT) {
+        Ok(metres) => Some(metres),
+        Err(_) => None,
     }
 }
 

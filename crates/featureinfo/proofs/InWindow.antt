@@ -8,7 +8,7 @@ use lib.IntN.{pos, neg_ℤ, ◌-ℤ◌}
 use lib.Signed.{◌<ℤ◌, ◌≤ℤ◌}
 use Rattle.geom.proofs.Products.{le_of}
 use Rattle.geom.specs.World.{Place}
-use Rattle.mapdefs.specs.Class.{is_visible_layer}
+use Rattle.scene.specs.Classes.{is_visible_layer}
 use Rattle.mapdefs.specs.Near.{AreCandidates, HasBoxIn, points_of}
 use Rattle.mapdefs.specs.declared.feature.FeatureFields.{FeatureFields}
 use Rattle.mapdefs.specs.declared.layer.Geometry.{Geometry}

@@ -4,7 +4,7 @@ use Rattle.std.specs.List.{AllPairs, Contains, list_any}
 use Rattle.geom.specs.Device.{DevicePoint, pixel_centre}
 use Rattle.geom.specs.EvenOdd.{is_inside}
 use Rattle.geom.specs.World.{Place}
-use Rattle.mapdefs.specs.Class.{class_of, is_visible_layer}
+use Rattle.scene.specs.Classes.{class_of, is_visible_layer}
 use Rattle.mapdefs.specs.declared.feature.FeatureFields.{FeatureFields}
 use Rattle.mapdefs.specs.declared.layer.Geometry.{Geometry}
 use Rattle.mapdefs.specs.declared.layer.Geometry.TheVariants as kind

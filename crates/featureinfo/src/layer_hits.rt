@@ -1,7 +1,7 @@
 ghost use Rattle.std.specs.Prelude.{◌≡◌, ◌↔◌, ◌<◌, ◌≤◌, All, IfOk, IsTrue, length, true};
 ghost use Rattle.std.specs.List.Sorted.{IsStrictlyIncreasing};
 ghost use Rattle.geom.specs.declared.side.TheConstants.{MAX_PICTURE_SIDE};
-ghost use Rattle.mapdefs.specs.Class.{is_visible_layer};
+ghost use Rattle.scene.specs.Classes.{is_visible_layer};
 ghost use Rattle.mapdefs.specs.declared.layer.Geometry.TheVariants.{Line as LineKind, Polygon as PolygonKind};
 ghost use Rattle.featureinfo.specs.Hits.{AreFirstAmong, AreHitsOf, IsClassedNear, IsHitAt, covers_plainly};
 ghost use Rattle.featureinfo.specs.Nearby.{SomeNear, part_near, points_near};

@@ -18,3 +18,5 @@ mod maps;
 mod queried_layers;
 #[cfg(test)]
 mod runs;
+#[cfg(test)]
+mod tiles;

@@ -166,7 +166,7 @@ one-to : HasOneSmoothPicture → HasOneHitList → (state : State) (query : List
 one-to picture hits state query (Err fault) a b meant e f = equal-alike a b (e ∙ sym f)
 one-to picture hits state query (Ok request.Capabilities) a b meant e f = equal-alike a b (e ∙ sym f)
 one-to picture hits state query (Ok (request.Map r)) a b meant (p, is, e) (q, are, f) =
-    let one : q ≡ p = sym (picture state.map (fine_of state.map r) (scale_of (view_of r)) r.chosen r.background p q (some-factor state.map r) is are) in
+    let one : q ≡ p = sym (picture state.map (fine_of state.map r) (scale_of r) r.chosen r.background p q (some-factor state.map r) is are) in
     pictures-alike r.format p a b e (subst (λ (shown : SmoothFields). IsWrittenPicture r.format shown b) one f)
 one-to picture hits state query (Ok (request.Information r)) a b meant (found, mine, e) (others, theirs, f) =
     let layers : HasLayers state.map r.layers = queried-layers state.map (layer_names (texts_of (pairs_of query))) (names_of (given (texts_of (pairs_of query)) parameter.QueryLayers)) r.layers meant.1.1.layers in

@@ -1,7 +1,8 @@
 -- The map machine: its answer to a query, its state after a batch, and its runs (docs/SERVICE.md, "The machine").
-use Rattle.std.specs.Prelude.{◌≡◌, ℕ, ◌+◌, ◌-ℤ◌, unsigned_abs, List, [], ◌∷◌, Some, unwrap_or, Result, Ok, Err}
+use Rattle.std.specs.Prelude.{◌≡◌, ℕ, ◌+◌, ◌-ℤ◌, unsigned_abs, List, [], ◌∷◌, Option, None, Some, unwrap_or, Result, Ok, Err}
 use Rattle.std.specs.List.{AllZip}
-use Rattle.geom.specs.Scale.{PictureScale}
+use Rattle.geom.specs.World.{Area}
+use Rattle.scaledenom.specs.Scale.{PictureScale, scale_of_degrees, scale_of_metres}
 use Rattle.mapdefs.specs.declared.map.MapFields.{MapFields}
 use Rattle.mapdefs.specs.declared.smooth_picture.SmoothFields.{SmoothFields}
 use Rattle.operations.specs.declared.mime.Mime.TheVariants as mime
@@ -44,9 +45,14 @@ heights_of crs.Epsg3857 = heights.Mercator
 abbrev pub view_of : MapRequest → ViewValue
 view_of request = plain_view (heights_of request.crs) request.area request.width request.height
 
--- the scale of a view: how much of the world, from west to east, its columns of pixels show
-abbrev pub scale_of : ViewValue → PictureScale
-scale_of view = record { span = unsigned_abs (view.area.maxx -ℤ view.area.minx); width = view.width }
+-- the scale of so many pixels that show an area from west to east: by its metres where its system is in metres, else by its degrees
+abbrev pub scale_by : Option ℕ → Area → ℕ → PictureScale
+scale_by (Some metres) area width = scale_of_metres metres width
+scale_by None area width = scale_of_degrees (unsigned_abs (area.maxx -ℤ area.minx)) width
+
+-- the scale of a request: that of its width
+abbrev pub scale_of : MapRequest → PictureScale
+scale_of request = scale_by request.metres request.area request.width
 
 -- the view by the picture of which the requested one is the mean: as many times as fine as the map says, where an area that large has
 -- such a picture, else the requested one itself
@@ -63,12 +69,12 @@ IsWrittenPicture format.ArbitraryMap picture answer = answer ≡ record { mime =
 abbrev pub IsMapAnswer : MapFields → MapRequest → Answer → Type 0
 IsMapAnswer map request answer =
     (picture : SmoothFields)
-    × IsSmoothPictureOf map (fine_of map request) (scale_of (view_of request)) request.chosen request.background picture
+    × IsSmoothPictureOf map (fine_of map request) (scale_of request) request.chosen request.background picture
     × IsWrittenPicture request.format picture answer
 
 -- the scene of a request for a picture: its map, its view and its scale
 abbrev pub scene_of : MapFields → MapRequest → SceneValue
-scene_of map request = record { map = map; view = view_of request; scale = scale_of (view_of request) }
+scene_of map request = record { map = map; view = view_of request; scale = scale_of request }
 
 -- the hits are those of the layer at an index, near the pixel of the request, and at most as many as it requests
 abbrev pub AreAskedHits : MapFields → InformationRequest → ℕ → LayerHits → Type 0

@@ -18,6 +18,7 @@ mod answerer;
 pub mod laws;
 mod machine;
 mod reply;
+mod views;
 
 pub use answers::Answer;
 pub use batches::{BatchError, BatchFault, BatchKind, Bytes, MAX_BATCH};

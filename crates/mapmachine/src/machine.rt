@@ -1,29 +1,27 @@
-ghost use Rattle.std.specs.Prelude.{◌≡◌, ◌<◌, ◌-ℤ◌, unwrap_or, unsigned_abs, length, All, Ok, Err, IfOk, IfSome, IfErr, OnErr};
+ghost use Rattle.std.specs.Prelude.{◌≡◌, ◌<◌, unwrap_or, length, All, Ok, Err, IfOk, IfSome, IfErr, OnErr};
 ghost use Rattle.std.specs.List.{AllZip, Contains};
 ghost use Rattle.geom.specs.World.{IsExtent};
 ghost use Rattle.mapdefs.specs.Alpha.{with_alphas};
-ghost use Rattle.mapmachine.specs.Machine.{fine_of, heights_of, view_of, IsWrittenPicture};
+ghost use Rattle.mapmachine.specs.Machine.{fine_of, view_of, IsWrittenPicture};
 
 use crate::reply::{Event, Reply};
+use crate::views::{scale_of, view_of};
 use answers::Answer;
 use batches::{BatchError, BatchFault, BatchKind, MAX_BATCH, after_batch};
 use capabilities::document;
 use compose::laws::smooth_by_one;
 use compose::{FineScene, PictureQuery, draw, smooth_picture};
-use crsaxes::Crs;
 use featureinfo::{LayerHits, LayerQuery, hits_in, text};
-use geom::{PictureSide, WorldBox};
 use layers::Layers;
 use mapdefs::{Items, Map, Picture, Shared, SmoothPicture};
 use operations::Mime;
 use png::{write_png, write_smooth_png};
-use scaledenom::Scale;
 use scene::Scene;
 use std::alloc::{AllocError, Global};
 use std::marker::Model;
 use symbols::laws::alphas;
 use symbols::{write_pam, write_ppm, write_smooth_pam, write_smooth_ppm};
-use viewport::{Fine, Heights, View};
+use viewport::Fine;
 use wmsquery::{
     Format, InformationRequest, MapRequest, QueryError, Request, WmsFault, read as read_query,
     report,
@@ -49,19 +47,6 @@ impl Model for Machine {
     ghost view = { λ m. record { map = m.layers; sequence = m.sequence } };
 }
 
-// The view of a request: its area, by a picture of its sides.
-fn view_of(request: &MapRequest) -> View
-    requires { IsExtent request.now.area }
-    ensures { result ≡ view_of request.now }
-{
-    View::new(
-        heights_of(request.crs),
-        request.area,
-        request.width,
-        request.height,
-    )
-}
-
 // What a request asks for of a picture.
 fn asked_of(request: &MapRequest) -> PictureQuery<'_>
     ensures chosen { result.chosen.now ≡ request.now.chosen }
@@ -71,15 +56,6 @@ fn asked_of(request: &MapRequest) -> PictureQuery<'_>
         chosen: request.chosen.as_slice(),
         background: request.background,
     }
-}
-
-// The scale at which an area is shown by that many columns of pixels.
-fn scale_of(area: WorldBox, width: PictureSide) -> Scale
-    requires { IsExtent area }
-    ensures { result ≡ record { span = unsigned_abs (area.maxx -ℤ area.minx); width = width } }
-{
-    let span = area.maxx().millionths() - area.minx().millionths();
-    Scale::of(span as u32, width)
 }
 
 // A picture whose pixels are means, in a format.
@@ -199,11 +175,7 @@ impl Machine {
         requires { IsExtent request.now.area }
         ensures { result ≡ scene_of self.now.map request.now }
     {
-        Scene::new(
-            self.layers.map(),
-            view_of(request),
-            scale_of(request.area, request.width),
-        )
+        Scene::new(self.layers.map(), view_of(request), scale_of(request))
     }
 
     // The fine picture of a request, where the map asks for one and the area is large enough.
@@ -225,7 +197,7 @@ impl Machine {
         ensures { IfOk result (Answers self.now (Ok (Request.Map request.now))) }
     {
         let asked = asked_of(request);
-        let scale = scale_of(request.area, request.width);
+        let scale = scale_of(request);
         let scene = FineScene::new(self.layers.map(), fine, scale);
         let picture = smooth_picture(self.alloc, &scene, &self.layers, &asked)?;
         written_smooth(self.alloc, request.format, &picture)
@@ -415,15 +387,5 @@ impl Machine {
             replies.push_reserved(self.step(event));
         }
         Ok(Items::of(replies))
-    }
-}
-
-// What a picture in a system measures from south to north.
-fn heights_of(crs: Crs) -> Heights
-    ensures { result ≡ heights_of crs }
-{
-    match crs {
-        Crs::Crs84 | Crs::Epsg4326 => Heights::Latitudes,
-        Crs::Epsg3857 => Heights::Mercator,
     }
 }

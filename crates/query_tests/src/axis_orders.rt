@@ -1,4 +1,4 @@
-use crsaxes::bbox;
+use crsaxes::{bbox, crs_of};
 use std::alloc::{AllocError, Global};
 use test_tables::{TableFault, check_rows};
 
@@ -45,6 +45,40 @@ NotANumber=EPSG:3857=0,0,111319490.793275,4
 NotANumber=EPSG:3857=0,0,4 ,4
 Empty=EPSG:3857=0,0,0.05,4
 UnknownCrs=EPSG:900913=0,0,4,4";
+
+// The difference of the two eastings in millionths of a metre, or `none`, `=`, a system, `=` and a text.
+const WIDTHS: &str = "\
+222638981587=EPSG:3857=111319.490793,-222638.981587,333958.47238,556597.453966
+40075016685578=EPSG:3857=-20037508.342789244,-20037508.342789244,20037508.342789244,20037508.342789244
+# each easting is rounded as it is read, a half away from zero
+2445984905=EPSG:3857=1234567.0000005,7,1237012.984906499,9
+2445984906=EPSG:3857=-1234567.0000005,7,-1232121.0150945,9
+2=EPSG:3857=-0.0000005,0.1,0.0000005,5
+222638981586548=EPSG:3857=-111319490.793274,0,111319490.793274,1
+none=EPSG:3857=-111319490.793275,0,0,1
+none=EPSG:3857=0,0,x,1
+none=EPSG:3857=0,0,3
+none=EPSG:3857=0,0,3,1,2
+none=CRS:84=10,40,14,44.5
+none=EPSG:4326=10,40,14,44.5";
+
+fn width_of(alloc: Global, row: &str) -> Result<String, AllocError> {
+    let Some((name, text)) = row.split_once('=') else {
+        return String::from_str(alloc, "malformed");
+    };
+    let Some(crs) = crs_of(true, name) else {
+        return String::from_str(alloc, "unknown");
+    };
+    match crs.metres_across(text) {
+        Some(metres) => format!(in alloc; "{metres}"),
+        None => String::from_str(alloc, "none"),
+    }
+}
+
+#[test]
+fn metres_are_the_difference_of_the_eastings(rt: HostRuntime) -> Result<(), TableFault> {
+    check_rows(rt.alloc(), WIDTHS, '=', 12, width_of)
+}
 
 fn box_or_fault(
     alloc: Global,

@@ -170,9 +170,9 @@ const OFFERED: &str = "\
 InvalidFormat: FORMAT|FORMAT=image/PNG&@
 InvalidFormat: FORMAT|FORMAT=image/gif&@
 InvalidFormat: FORMAT|FORMAT=image/png%20&@
-# web mercator: a degree of the equator has 111319.490793 metres
-0, 1000000 2000000 3000000 5000000 4 4 255 255 255|CRS=EPSG:3857&BBOX=111319.490793,222638.981587,333958.472380,556597.453966&@
-0, -180000000 -180000000 180000000 180000000 4 4 255 255 255|CRS=EPSG:3857&BBOX=-20037508.342789244,-20037508.342789244,20037508.342789244,20037508.342789244&@
+# web mercator: a degree of the equator has 111319.490793 metres. The width in millionths of a metre ends a picture
+0, 1000000 2000000 3000000 5000000 4 4 255 255 255 222638981587m|CRS=EPSG:3857&BBOX=111319.490793,222638.981587,333958.472380,556597.453966&@
+0, -180000000 -180000000 180000000 180000000 4 4 255 255 255 40075016685578m|CRS=EPSG:3857&BBOX=-20037508.342789244,-20037508.342789244,20037508.342789244,20037508.342789244&@
 0, 0 0 4000000 4000000 4 4 255 255 255|CRS=CRS:84&@
 InvalidParameterValue: BBOX|CRS=EPSG:3857&BBOX=0,0,111319490.8,4&@
 InvalidParameterValue: BBOX|CRS=EPSG:3857&BBOX=0,0,0.04,4&@
@@ -238,6 +238,14 @@ fn ground(alloc: Global, request: &MapRequest) -> Result<String, AllocError> {
     Ok(text)
 }
 
+// The width of the area of a request, where it is in metres.
+fn metres(alloc: Global, request: &MapRequest) -> Result<String, AllocError> {
+    match request.metres {
+        Some(metres) => format!(in alloc; " {metres}m"),
+        None => Ok(String::new(alloc)),
+    }
+}
+
 // The picture of a request, as a row writes it.
 fn picture(alloc: Global, request: &MapRequest) -> Result<String, AllocError> {
     let chosen = listed(alloc, request.chosen.as_slice())?;
@@ -246,7 +254,8 @@ fn picture(alloc: Global, request: &MapRequest) -> Result<String, AllocError> {
     let (east, north) = (area.maxx().millionths(), area.maxy().millionths());
     let (width, height) = (request.width.pixels(), request.height.pixels());
     let ground = ground(alloc, request)?;
-    format!(in alloc; "{chosen} {west} {south} {east} {north} {width} {height} {ground}")
+    let metres = metres(alloc, request)?;
+    format!(in alloc; "{chosen} {west} {south} {east} {north} {width} {height} {ground}{metres}")
 }
 
 // A request for features, as a row writes it.

@@ -5,10 +5,13 @@ use Rattle.std.proofs.lemmas.Bool.{cases_lt}
 use Rattle.std.proofs.lemmas.Int.{ints}
 use Rattle.std.specs.Prelude.{int_le}
 use lib.IntN.{pos, negsuc}
-use Rattle.geom.specs.Scale.{ground_width, picture_width, reaches, BoundsAreFractions, OneOfTwoIsVisible, WorkedScale}
+use Rattle.scaledenom.specs.Scale.{ground_width, picture_width, reaches, BoundsAreFractions, OneOfTwoIsVisible, WorkedMetres, WorkedScale}
 
 pub worked : WorkedScale
 worked = refl
+
+pub worked-metres : WorkedMetres
+worked-metres = record { one = refl; reached = refl; before = refl }
 
 -- a bound above 0 counts
 counts : (low reached : Bool) → low ≡ false → (low || not reached) ≡ not (reached && true)

@@ -5,7 +5,8 @@
 //! that share a bound exactly one is visible.
 //!
 //! Terms: the *scale denominator* says how many times as wide the shown part of the world is on the ground
-//! as in the picture. A pixel counts as 0.28 mm and a degree as 111,319.491 m.
+//! as in the picture. A pixel counts as 0.28 mm and a degree as 111,319.491 m; metres of web mercator are those of the
+//! ground, as at the equator.
 #![tactic(auto)]
 
 pub mod laws;

@@ -1,6 +1,7 @@
 ghost use Rattle.std.specs.Prelude.{◌≡◌};
 ghost use Rattle.std.specs.Option.{option_copied};
-ghost use Rattle.mapdefs.specs.Class.{class_of, class_value, holds};
+ghost use Rattle.mapdefs.specs.Class.{class_value, holds};
+ghost use Rattle.scene.specs.Classes.{class_of};
 
 use expressions::{holds, item_value};
 use mapdefs::{ClassFields, FeatureFields, LayerFields};

@@ -1,7 +1,7 @@
 ghost use Rattle.std.specs.Prelude.{◌≡◌, ◌<◌, ◌≤◌, Some, IfOk, length, map, slice_get, vec_items};
 ghost use Rattle.std.specs.Option.{option_copied};
 ghost use Rattle.geom.specs.Device.{pixel_of};
-ghost use Rattle.mapdefs.specs.Class.{class_of, is_visible_layer};
+ghost use Rattle.scene.specs.Classes.{class_of, is_visible_layer};
 ghost use Rattle.viewport.specs.View.{IsView, device_point, points_of, window};
 ghost use Rattle.viewport.specs.declared.view.TheConstants.{MAX_MARGIN};
 

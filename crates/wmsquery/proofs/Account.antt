@@ -1,5 +1,5 @@
 -- The reader's account of a query is what the query means.
-use Rattle.std.proofs.Common.{◌≡◌, ◌∙◌, ℕ, Bool, List, [], ◌∷◌, ◌++◌, length, Option, Some, Result, Ok, Err, IfOk, IfErr, MatchResult, ap, refl, sym, subst}
+use Rattle.std.proofs.Common.{◌≡◌, ◌∙◌, ℕ, Bool, List, [], ◌∷◌, ◌++◌, length, Option, Some, Result, Ok, Err, IfOk, IfErr, MatchResult, option_and_then, ap, refl, sym, subst}
 use Rattle.std.specs.Option.{option_map_or}
 use Rattle.std.specs.Result.{result_ok, result_err}
 use Rattle.operations.specs.declared.operation.Operation.{Operation}
@@ -23,9 +23,9 @@ use Rattle.wmsquery.specs.declared.request.Request.TheVariants as request
 use Rattle.wmsquery.specs.Meaning.{HasValues, HasInformation, IsRequestOf, IsMeaningOf, IsMeaningErrorOf}
 use Rattle.wmsquery.specs.Order.{first_fault, order, map_order, information_order}
 use Rattle.wmsquery.specs.Pairs.{Texts, given}
-use Rattle.wmsquery.specs.Query.{operation_in, layer_names, system_in, area_in, format_in, background_in, asked_in, column_in, row_in, refusal, looked_at}
+use Rattle.wmsquery.specs.Query.{operation_in, layer_names, system_in, area_in, metres_in, format_in, background_in, asked_in, column_in, row_in, refusal, looked_at}
 use Rattle.wmsquery.specs.Reading.{IsErrorOf, checked, operation_read, layers_read, viewport_read, output_read, map_read, asked_read, pixel_read, information_read, own_read, request_read}
-use Rattle.wmsquery.specs.Values.{service_of, version_of, layers_of, styles_of, system_of, area_of, side_of, format_of, transparent_of, background_of, background_for, info_format_of, feature_count_of, pixel_of, sequence_of}
+use Rattle.wmsquery.specs.Values.{service_of, version_of, layers_of, styles_of, system_of, area_of, metres_of, side_of, format_of, transparent_of, background_of, background_for, info_format_of, feature_count_of, pixel_of, sequence_of}
 use Rattle.mapdefs.specs.Outcome.{and_then}
 use Rattle.wmsquery.proofs.FirstFault.{checked-last, checked-then, or_later, stretches, stretch-then}
 use Rattle.wmsquery.proofs.Steps.{steps, unchecked, same-value, same-fault}
@@ -116,6 +116,7 @@ module _ (map : MapFields) (sequence : ℕ) (t : Texts) where
   record HasViewport (viewport : Viewport) : Type 0 where
     pub crs : system_in map t ≡ Ok viewport.crs
     pub area : area_in map t ≡ Ok viewport.area
+    pub metres : metres_in map t ≡ viewport.metres
     pub width : side_of (given t parameter.Width) ≡ Ok viewport.width
     pub height : side_of (given t parameter.Height) ≡ Ok viewport.height
 
@@ -125,11 +126,13 @@ module _ (map : MapFields) (sequence : ℕ) (t : Texts) where
       let area = steps (checked parameter.Bbox (area_of crs.first (given t parameter.Bbox))) _ viewport crs.rest in
       let width = steps (checked parameter.Width (side_of (given t parameter.Width))) _ viewport area.rest in
       let height = steps (checked parameter.Height (side_of (given t parameter.Height))) _ viewport width.rest in
-      let same = same-value (record { crs = crs.first; area = area.first; width = width.first; height = height.first }) viewport height.rest in
+      let same = same-value (record { crs = crs.first; area = area.first; metres = metres_of crs.first (given t parameter.Bbox); width = width.first; height = height.first }) viewport height.rest in
       record {
         crs = unchecked parameter.Crs _ crs.first crs.is ∙ ap (λ (f : Viewport). Ok f.crs) same;
         area = ap (λ s. and_then s (λ system. area_of system (given t parameter.Bbox))) (unchecked parameter.Crs _ crs.first crs.is)
             ∙ unchecked parameter.Bbox _ area.first area.is ∙ ap (λ (f : Viewport). Ok f.area) same;
+        metres = ap (λ s. option_and_then (λ system. metres_of system (given t parameter.Bbox)) (result_ok s)) (unchecked parameter.Crs _ crs.first crs.is)
+            ∙ ap (λ (f : Viewport). f.metres) same;
         width = unchecked parameter.Width _ width.first width.is ∙ ap (λ (f : Viewport). Ok f.width) same;
         height = unchecked parameter.Height _ height.first height.is ∙ ap (λ (f : Viewport). Ok f.height) same;
       }
@@ -168,6 +171,7 @@ module _ (map : MapFields) (sequence : ℕ) (t : Texts) where
         chosen = layers-value o chosen.first chosen.is ∙ ap (λ (q : MapRequest). Ok q.chosen) same;
         crs = f.crs ∙ ap (λ (q : MapRequest). Ok q.crs) same;
         area = f.area ∙ ap (λ (q : MapRequest). Ok q.area) same;
+        metres = f.metres ∙ ap (λ (q : MapRequest). q.metres) same;
         width = f.width ∙ ap (λ (q : MapRequest). Ok q.width) same;
         height = f.height ∙ ap (λ (q : MapRequest). Ok q.height) same;
         format = l.format ∙ ap (λ (q : MapRequest). Ok q.format) same;

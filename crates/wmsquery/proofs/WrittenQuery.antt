@@ -1,5 +1,5 @@
 -- A query that is written out from a request means that request.
-use Rattle.std.proofs.Common.{◌^◌, ◌++◌, ◌≡◌, ℕ, ◌<◌, ◌≤◌, List, [], ◌∷◌, All, map, length, length-append, Bool, true, false, Option, None, Some, Ok, refl, sym, ap, subst, ◌∙◌, arith}
+use Rattle.std.proofs.Common.{◌^◌, ◌++◌, ◌≡◌, ℕ, ◌<◌, ◌≤◌, List, [], ◌∷◌, All, map, length, length-append, Bool, true, false, Option, None, Some, Ok, option_and_then, refl, sym, ap, subst, ◌∙◌, arith}
 use Rattle.std.proofs.lemmas.List.Elements.{All-nil, All-cons, All-head, All-weaker}
 use Rattle.std.specs.Fmt.{decimal}
 use Rattle.std.specs.Option.{option_map_or}
@@ -25,8 +25,8 @@ use Rattle.wmsquery.specs.declared.request.Request.TheVariants as request
 use Rattle.wmsquery.specs.Meaning.{HasValues, HasInformation, IsMeaningOf}
 use Rattle.wmsquery.specs.Order.{first_of, first_fault, order, map_order, information_order}
 use Rattle.wmsquery.specs.Pairs.{Texts, some_text, texts_of, given, names_of}
-use Rattle.wmsquery.specs.Query.{operation_in, layer_names, styles_in, system_in, area_in, format_in, background_in, asked_in, column_in, row_in, refusal, looked_at}
-use Rattle.wmsquery.specs.Values.{service_of, operation_of, layers_of, styles_of, system_of, area_of, side_of, format_of, transparent_of, background_of, background_for, asked_of, feature_count_of, pixel_of}
+use Rattle.wmsquery.specs.Query.{operation_in, layer_names, styles_in, system_in, area_in, metres_in, format_in, background_in, asked_in, column_in, row_in, refusal, looked_at}
+use Rattle.wmsquery.specs.Values.{service_of, operation_of, layers_of, styles_of, system_of, area_of, metres_of, side_of, format_of, transparent_of, background_of, background_for, asked_of, feature_count_of, pixel_of}
 use Rattle.mapdefs.specs.Outcome.{and_then}
 use Rattle.wmsquery.specs.Written.{IsKnown, with_commas, crs_text, bbox_text, format_text, transparent_text, background_text, picture_pairs, feature_pairs, written_pairs, AreNamed, IsOffered, IsBackground, IsColour, IsPicture, IsInformation, IsWritable, WrittenIsMeant}
 use Rattle.wmsquery.proofs.FirstFault.{AreAccepted, none-refused, none-both}
@@ -277,6 +277,12 @@ module _ (map : MapFields) (sequence : ℕ) (crs : Crs) (o : Operation) (names :
       ∙ ap (area_of crs) (some-given _ (bbox-some crs r.area))
       ∙ area-written crs r.area is.area
 
+  metres-are : metres_in map t ≡ r.metres
+  metres-are =
+      ap (λ s. option_and_then (λ system. metres_of system (given t parameter.Bbox)) (result_ok s)) crs-is
+      ∙ ap (metres_of crs) (some-given _ (bbox-some crs r.area))
+      ∙ is.metres
+
   -- the sides
   width-is : side_of (given t parameter.Width) ≡ Ok r.width
   width-is =
@@ -313,7 +319,7 @@ module _ (map : MapFields) (sequence : ℕ) (crs : Crs) (o : Operation) (names :
 
   -- and the values are those of the request
   values-are : HasValues map t r
-  values-are = record { chosen = layers-are; crs = crs-is ∙ ap Ok (sym is.own); area = area-is; width = width-is; height = height-is; format = format-is; background = background-is }
+  values-are = record { chosen = layers-are; crs = crs-is ∙ ap Ok (sym is.own); area = area-is; metres = metres-are; width = width-is; height = height-is; format = format-is; background = background-is }
 
 -- ---- what comes after SERVICE and REQUEST
 

@@ -13,7 +13,7 @@ use Rattle.wmsquery.specs.declared.request.Request.{Request}
 use Rattle.wmsquery.specs.declared.request.Request.TheVariants as request
 use Rattle.wmsquery.specs.Order.{first_fault}
 use Rattle.wmsquery.specs.Pairs.{Texts, pairs_of, texts_of, given}
-use Rattle.wmsquery.specs.Query.{operation_in, layer_names, system_in, area_in, format_in, background_in, asked_in, column_in, row_in, refusal, looked_at}
+use Rattle.wmsquery.specs.Query.{operation_in, layer_names, system_in, area_in, metres_in, format_in, background_in, asked_in, column_in, row_in, refusal, looked_at}
 use Rattle.wmsquery.specs.Values.{layers_of, side_of, feature_count_of}
 
 -- the request has the values of the parameters
@@ -21,6 +21,7 @@ pub record HasValues (map : MapFields) (t : Texts) (r : MapRequest) : Type 0 whe
   pub chosen : layers_of map (layer_names t) ≡ Ok r.chosen
   pub crs : system_in map t ≡ Ok r.crs
   pub area : area_in map t ≡ Ok r.area
+  pub metres : metres_in map t ≡ r.metres
   pub width : side_of (given t parameter.Width) ≡ Ok r.width
   pub height : side_of (given t parameter.Height) ≡ Ok r.height
   pub format : format_in map t ≡ Ok r.format

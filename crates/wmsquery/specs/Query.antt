@@ -1,5 +1,5 @@
 -- What the parameters of a query mean together (OGC 06-042, 7.2 to 7.4; docs/WMS.md, "Queries").
-use Rattle.std.specs.Prelude.{ℕ, List, [], ◌∷◌, length, Option, Result, Ok}
+use Rattle.std.specs.Prelude.{ℕ, List, [], ◌∷◌, length, Option, Result, Ok, option_and_then}
 use Rattle.std.specs.Option.{option_map_or}
 use Rattle.std.specs.Result.{result_ok, result_err}
 use Rattle.crsaxes.specs.declared.crs.Crs.{Crs}
@@ -13,7 +13,7 @@ use Rattle.wmsquery.specs.declared.fault.Parameter.TheVariants as parameter
 use Rattle.wmsquery.specs.declared.request.Format.{Format}
 use Rattle.wmsquery.specs.Order.{order}
 use Rattle.wmsquery.specs.Pairs.{Texts, given, names_of}
-use Rattle.wmsquery.specs.Values.{service_of, operation_of, version_of, layers_of, styles_of, system_of, area_of, side_of, format_of, transparent_of, background_of, background_for, asked_of, info_format_of, feature_count_of, pixel_of, sequence_of}
+use Rattle.wmsquery.specs.Values.{service_of, operation_of, version_of, layers_of, styles_of, system_of, area_of, metres_of, side_of, format_of, transparent_of, background_of, background_for, asked_of, info_format_of, feature_count_of, pixel_of, sequence_of}
 use Rattle.mapdefs.specs.Outcome.{and_then}
 
 -- the names of the layers that LAYERS lists
@@ -27,6 +27,10 @@ system_in map t = system_of map.mercator (given t parameter.Crs)
 -- the area that BBOX means in that system
 abbrev pub area_in : MapFields → Texts → Result Area Code
 area_in map t = and_then (system_in map t) (λ crs. area_of crs (given t parameter.Bbox))
+
+-- how wide that area is in millionths of a metre, if the system is in metres
+abbrev pub metres_in : MapFields → Texts → Option ℕ
+metres_in map t = option_and_then (λ crs. metres_of crs (given t parameter.Bbox)) (result_ok (system_in map t))
 
 -- the operation that REQUEST means
 abbrev pub operation_in : Texts → Result Operation Code

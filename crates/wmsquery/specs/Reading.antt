@@ -18,7 +18,7 @@ use Rattle.wmsquery.specs.declared.request.Request.{Request}
 use Rattle.wmsquery.specs.declared.request.Request.TheVariants as request
 use Rattle.wmsquery.specs.Pairs.{Texts, given}
 use Rattle.wmsquery.specs.Query.{layer_names, asked_in}
-use Rattle.wmsquery.specs.Values.{service_of, operation_of, version_of, layers_of, styles_of, system_of, area_of, side_of, format_of, transparent_of, background_of, background_for, info_format_of, feature_count_of, pixel_of, sequence_of}
+use Rattle.wmsquery.specs.Values.{service_of, operation_of, version_of, layers_of, styles_of, system_of, area_of, metres_of, side_of, format_of, transparent_of, background_of, background_for, info_format_of, feature_count_of, pixel_of, sequence_of}
 use Rattle.mapdefs.specs.Outcome.{and_then}
 
 -- what a parameter means, or its refusal as a fault
@@ -52,7 +52,7 @@ viewport_read map t =
     and_then (checked parameter.Bbox (area_of crs (given t parameter.Bbox))) (λ area.
     and_then (checked parameter.Width (side_of (given t parameter.Width))) (λ width.
     and_then (checked parameter.Height (side_of (given t parameter.Height))) (λ height.
-    Ok (record { crs = crs; area = area; width = width; height = height })))))
+    Ok (record { crs = crs; area = area; metres = metres_of crs (given t parameter.Bbox); width = width; height = height })))))
 
 -- the format and the background
 abbrev pub output_read : MapFields → Operation → Texts → Result Output WmsFault
@@ -68,7 +68,7 @@ map_read map o t =
     and_then (layers_read map o t) (λ chosen.
     and_then (viewport_read map t) (λ viewport.
     and_then (output_read map o t) (λ output.
-    Ok (record { chosen = chosen; crs = viewport.crs; area = viewport.area; width = viewport.width; height = viewport.height; format = output.format; background = output.background }))))
+    Ok (record { chosen = chosen; crs = viewport.crs; area = viewport.area; metres = viewport.metres; width = viewport.width; height = viewport.height; format = output.format; background = output.background }))))
 
 -- the layers whose features are requested
 abbrev pub asked_read : MapFields → Texts → Result (List ℕ) WmsFault

@@ -17,7 +17,7 @@ use Rattle.mapdefs.specs.Name.{index_of, is_same_name}
 use Rattle.operations.specs.Operation.{name_of}
 use Rattle.operations.specs.declared.operation.Operation.{Operation}
 use Rattle.operations.specs.declared.operation.Operation.TheVariants as operation
-use Rattle.crsaxes.specs.Axes.{box_of_parts, crs_of, parts}
+use Rattle.crsaxes.specs.Axes.{box_of_parts, crs_of, metres_across, parts}
 use Rattle.crsaxes.specs.declared.crs.Crs.{Crs}
 use Rattle.wmsquery.specs.declared.fault.Code.{Code}
 use Rattle.wmsquery.specs.declared.fault.Code.TheVariants as code
@@ -113,6 +113,10 @@ system_of mercator text = and_then (required text) (λ name. ok_or (crs_of merca
 -- BBOX is a box in the axis order of a system
 abbrev pub area_of : Crs → Option (List ℕ) → Result Area Code
 area_of crs text = and_then (required text) (λ box. ok_or (result_ok (box_of_parts crs (parts box))) code.InvalidParameterValue)
+
+-- how wide BBOX is in millionths of a metre, in a system of metres
+abbrev pub metres_of : Crs → Option (List ℕ) → Option ℕ
+metres_of crs text = option_and_then (λ box. metres_across crs (parts box)) text
 
 -- WIDTH and HEIGHT are the number of a side that a picture may have
 abbrev pub side_of : Option (List ℕ) → Result ℕ Code

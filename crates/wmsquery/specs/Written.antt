@@ -4,6 +4,7 @@ use Rattle.std.specs.Fmt.{decimal}
 use Rattle.std.specs.List.{join_with_byte}
 use Rattle.form_urlencoded.specs.Form.{extend_pairs}
 use Rattle.hex.specs.Hex.{encode_lower}
+use Rattle.crsaxes.specs.Axes.{metres_across, parts}
 use Rattle.crsaxes.specs.Metres.{metres_down, metres_up}
 use Rattle.crsaxes.specs.declared.crs.Crs.{Crs}
 use Rattle.crsaxes.specs.declared.crs.Crs.TheVariants.{Crs84, Epsg3857, Epsg4326}
@@ -148,8 +149,8 @@ IsBackground Png None = Unit {0}
 IsBackground ArbitraryMap None = Unit {0}
 IsBackground Pixmap None = ⊥
 
--- a request of 1 to `MAX_NAMES` layers of these names, an extent of the world in a known system, sides that a picture may have, a
--- format that the map offers, and a background of its format
+-- a request of 1 to `MAX_NAMES` layers of these names, an extent of the world in a known system, the metres of its box as it is
+-- written, sides that a picture may have, a format that the map offers, and a background of its format
 pub record IsPicture (map : MapFields) (crs : Crs) (names : List (List ℕ)) (request : MapRequest) : Type 0 where
   pub some : 1 ≤ length request.chosen
   pub most : length request.chosen ≤ MAX_NAMES
@@ -157,6 +158,7 @@ pub record IsPicture (map : MapFields) (crs : Crs) (names : List (List ℕ)) (re
   pub own : request.crs ≡ crs
   pub known : IsKnown map.mercator crs
   pub area : IsExtent request.area
+  pub metres : metres_across crs (parts (bbox_text crs request.area)) ≡ request.metres
   pub width : IsPictureSide request.width
   pub height : IsPictureSide request.height
   pub format : IsOffered map.png request.format

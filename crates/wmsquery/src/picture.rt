@@ -10,7 +10,9 @@ use crate::fault::{Parameter, WmsFault, checked};
 use crate::lists::{layers, styles};
 use crate::request::{Format, MapRequest};
 use crate::texts::ParameterTexts;
-use crate::values::{area, background, background_for, format, side, system, transparent, version};
+use crate::values::{
+    area, background, background_for, format, metres, side, system, transparent, version,
+};
 use crsaxes::Crs;
 use geom::{PictureSide, WorldBox};
 use mapdefs::{Items, Map, Rgb};
@@ -22,6 +24,7 @@ use std::alloc::Global;
 pub struct Viewport {
     pub crs: Crs,
     pub area: WorldBox,
+    pub metres: Option<u64>,
     pub width: PictureSide,
     pub height: PictureSide,
 }
@@ -72,11 +75,13 @@ fn read_viewport(texts: &ParameterTexts, map: &Map) -> Result<Viewport, WmsFault
         system(map.get().mercator, texts.given(Parameter::Crs)),
     )?;
     let area = checked(Parameter::Bbox, area(crs, texts.given(Parameter::Bbox)))?;
+    let metres = metres(crs, texts.given(Parameter::Bbox));
     let width = checked(Parameter::Width, side(texts.given(Parameter::Width)))?;
     let height = checked(Parameter::Height, side(texts.given(Parameter::Height)))?;
     Ok(Viewport {
         crs,
         area,
+        metres,
         width,
         height,
     })
@@ -118,6 +123,7 @@ pub fn read_map(
         chosen,
         crs: viewport.crs,
         area: viewport.area,
+        metres: viewport.metres,
         width: viewport.width,
         height: viewport.height,
         format: output.format,

@@ -22,6 +22,8 @@ pub struct MapRequest {
     pub crs: Crs,
     /// The area that the picture shows, in degrees, or in web mercator in degrees of the equator.
     pub area: WorldBox,
+    /// The width of the area in millionths of a metre, where its system is in metres.
+    pub metres: Option<u64>,
     /// The width of the picture.
     pub width: PictureSide,
     /// The height of the picture.

@@ -4,7 +4,7 @@ ghost use Rattle.geom.specs.Natural.{number_in, up_to};
 ghost use Rattle.geom.specs.Side.{picture_side};
 ghost use Rattle.geom.specs.World.{IsExtent};
 ghost use Rattle.mapdefs.specs.declared.limits.TheConstants.{MAX_FEATURES};
-ghost use Rattle.wmsquery.specs.Values.{fixed, service_of, operation_named, operation_of, version_of, system_of, area_of, side_of, format_of, transparent_of, colour_of, background_of, background_for, info_format_of, count_within, feature_count_of, index_below, pixel_of, is_behind, sequence_of};
+ghost use Rattle.wmsquery.specs.Values.{fixed, service_of, operation_named, operation_of, version_of, system_of, area_of, metres_of, side_of, format_of, transparent_of, colour_of, background_of, background_for, info_format_of, count_within, feature_count_of, index_below, pixel_of, is_behind, sequence_of};
 
 use crate::fault::Code;
 use crate::lists::absent;
@@ -99,6 +99,16 @@ pub fn area(crs: Crs, text: Option<&str>) -> Result<WorldBox, Code>
     match crs.bbox(text) {
         Ok(area) => Ok(area),
         Err(_) => Err(Code::InvalidParameterValue),
+    }
+}
+
+/// How wide the area that BBOX means is in millionths of a metre, in a system of metres.
+pub fn metres(crs: Crs, text: Option<&str>) -> Option<u64>
+    ensures { result ≡ metres_of crs (option_copied text.entry) }
+{
+    match text {
+        Some(text) => crs.metres_across(text),
+        None => None,
     }
 }
 

@@ -11,9 +11,6 @@ overflow_mul-result c =
     rw (times, is c.args.times (omega (arith, ints)), c.from-2.ensures, is (pos c.args.width) (omega (arith, ints)))
     (fits (c.args.times *ℤ pos c.args.width) (product c.args.times c.args.width inside c.requires.width))
 
-pub overflow_mul-result-2 : goal.overflow_mul-result-2
-overflow_mul-result-2 c = rw (c.from-3.ensures, is (pos c.args.most) (omega (arith, ints))) (fits (pos (c.args.most * 1000000)) (omega (arith, ints)))
-
 pub returns : goal.returns
 returns c =
     let inside = rw c.millionths.ensures at c.millionths.type_inv in
@@ -24,7 +21,5 @@ returns c =
       c.from-2.ensures,
       is (pos c.args.width) (omega (arith, ints)),
       is (c.args.times *ℤ pos c.args.width) (product c.args.times c.args.width inside c.requires.width),
-      c.from-3.ensures,
-      is (pos c.args.most) (omega (arith, ints)),
       is (pos (c.args.most * 1000000)) (omega (arith, ints)),
     )

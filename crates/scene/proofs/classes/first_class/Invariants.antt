@@ -1,6 +1,6 @@
 use Rattle.std.proofs.Common.{◌≡◌, drop}
 use Rattle.std.specs.Prelude.{find}
-use Rattle.mapdefs.specs.Class.{admits, class_of}
+use Rattle.scene.specs.Classes.{admits, class_of}
 use Rattle.scene.proofs.classes.first_class.Given as goal
 
 abbrev pub invariant-loop-class : goal.invariant-loop-class
