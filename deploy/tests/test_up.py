@@ -96,6 +96,28 @@ class Servers(unittest.TestCase):
             one.server.popen.stdout.close()
 
 
+class Beginnings(unittest.TestCase):
+    """In which order all is started, and what is printed meanwhile."""
+
+    def begun(self):
+        """What is done and printed, in its order. Of what is printed only that counts which goes out at once."""
+        with tempfile.TemporaryDirectory() as folder:
+            notes, one = [], up.Up(SimpleNamespace(mapfile="m.map", journal=None, port=1, viewer=False), pathlib.Path(folder))
+            nginx = SimpleNamespace(until_listening=lambda port: notes.append(f"listens {port}"))
+            patches = {
+                "Served": lambda options, folder: Played(notes, 10), "is_taken": lambda port: False, "Legend": lambda mapfile, path: notes.append("legend"),
+                "Process": lambda name, *words: notes.append(name) or nginx,
+            }
+            with mock.patch.multiple(up, **patches), mock.patch.object(up.shutil, "which", lambda name, path=None: name), \
+                    mock.patch.object(one, "write_configuration", lambda *ports: notes.append("configure")), \
+                    mock.patch("builtins.print", lambda words, flush=False: notes.append(words.split()[0]) if flush else None):
+                one.begin()
+            return notes
+
+    def test_each_step_is_printed_at_once_and_the_map_is_served_before_its_legend_is_made(self):
+        self.assertEqual(self.begun(), ["begin 10", "configure", "nginx", "listens 1", "http://127.0.0.1:1/", "a", "batches:", "legend"])
+
+
 class Processes(unittest.TestCase):
     def test_the_children_of_a_process_are_waited_for(self):
         with tempfile.TemporaryDirectory() as folder:
