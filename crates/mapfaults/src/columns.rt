@@ -12,8 +12,8 @@ use std::str;
 // The most characters that are shown of a header.
 const SHOWN_HEADER: usize = 200;
 
-// The names of the columns in which a layer looks for its coordinates.
-fn columns_of(layer: &LayerTree) -> (&str, &str) {
+/// The names of the columns in which a layer looks for its coordinates.
+pub fn columns_of(layer: &LayerTree) -> (&str, &str) {
     let values = &layer.body.values;
     let x = match values.plain_text(TextKeyword::CsvX) {
         Some(name) => name.as_str(),
@@ -26,8 +26,8 @@ fn columns_of(layer: &LayerTree) -> (&str, &str) {
     (x, y)
 }
 
-// The bytes of a layer's table, where its file has this name.
-fn table_of<'a>(layer: &LayerTree, name: &str, files: &'a Files) -> Option<&'a [u8]> {
+/// The bytes of a layer's table, where its file has this name.
+pub fn table_of<'a>(layer: &LayerTree, name: &str, files: &'a Files) -> Option<&'a [u8]> {
     match &layer.table {
         Some(file) if file.text.as_str() == name => files.bytes(name),
         _ => None,

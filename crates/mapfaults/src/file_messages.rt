@@ -1,7 +1,9 @@
-ghost use Rattle.std.specs.Prelude.{◌≡◌, option_map, IfOk, IfSome};
+ghost use Rattle.std.specs.Prelude.{◌≡◌, Some, option_map, IfOk, IfSome};
+ghost use Rattle.mapparse.specs.Uses.{uses_of};
 ghost use Rattle.mapfaults.specs.Missing.{AreOnCause, AreOnFiles, NamesMissing, begins_with_late_control, first_missing, has_control, is_control_byte, is_missing, missing_message};
 
 use crate::columns::message_on_columns;
+use crate::unread_value::{TableRow, message_on_value};
 use csvpoints::{CsvFault, CsvKind};
 use mapdefs::Text;
 use mapparse::{FileCause, FileFault, Files, Mapfile};
@@ -80,6 +82,26 @@ fn first_missing<'a>(names: &'a [Text], files: &Files) -> Option<&'a Text>
     None
 }
 
+/// The name of the first missing file that a mapfile uses, unless it has a control character. There is none where none is missing, or
+/// where memory is refused.
+pub fn missing_name(alloc: Global, mapfile: &Mapfile, files: &Files) -> Option<Text>
+    ensures { IfSome result (λ name. first_missing files.now (uses_of mapfile.now) ≡ Some name) }
+{
+    let Ok(names) = mapfile.wanted(alloc) else {
+        return None;
+    };
+    let Some(name) = first_missing(names.as_slice(), files) else {
+        return None;
+    };
+    if has_control(name.as_str()) {
+        return None;
+    }
+    match Text::from_str(alloc, name.as_str()) {
+        Ok(name) => Some(name),
+        Err(_) => None,
+    }
+}
+
 // The message on the first missing file that a mapfile uses, by the keyword that names it.
 fn message_on_missing(
     alloc: Global,
@@ -101,18 +123,33 @@ fn message_on_missing(
     }
 }
 
-// The columns of the file of a fault, which is a table that lacks one.
-fn message_on_columns_of(
+// What else the message on a table says: the columns where it lacks one, or the value of a row that is no coordinate.
+fn more_on_table(
     alloc: Global,
     at_hand: MapfileAtHand<'_>,
     fault: FileFault,
+    cause: CsvFault,
 ) -> Option<String> {
+    let MapfileAtHand { source, files, .. } = at_hand;
     let names = at_hand.mapfile.wanted(alloc).ok()?;
-    let name = names.as_slice().get(fault.number)?;
-    message_on_columns(alloc, at_hand.source, at_hand.files, name.as_str())
+    let name = names.as_slice().get(fault.number)?.as_str();
+    match cause.kind {
+        CsvKind::NoColumn => message_on_columns(alloc, source, files, name),
+        CsvKind::BadNumber => message_on_value(
+            alloc,
+            source,
+            files,
+            TableRow {
+                name,
+                row: cause.row,
+            },
+        ),
+        _ => None,
+    }
 }
 
-// The message on a file that is no table. Where its header lacks a column, the columns are shown.
+// The message on a file that is no table. Where its header lacks a column, the columns are shown, and where a row has no coordinate,
+// what it has.
 fn message_on_table(
     alloc: Global,
     at_hand: MapfileAtHand<'_>,
@@ -123,12 +160,8 @@ fn message_on_table(
     let message = format!(in alloc;
         "the file that {keyword} names is no table of points: {cause}"
     ).ok()?;
-    let columns = match cause.kind {
-        CsvKind::NoColumn => message_on_columns_of(alloc, at_hand, fault),
-        _ => None,
-    };
-    match columns {
-        Some(columns) => Some(Text::of(format!(in alloc; "{message}: {columns}").ok()?)),
+    match more_on_table(alloc, at_hand, fault, cause) {
+        Some(more) => Some(Text::of(format!(in alloc; "{message}: {more}").ok()?)),
         None => Some(Text::of(message)),
     }
 }

@@ -3,6 +3,7 @@ ghost use Rattle.maplex.specs.Lexed.{lexed, stopped};
 ghost use Rattle.mapfaults.specs.Explained.{begun, stepped, IsStop, IsWalked, IsFinding, standing};
 
 use crate::openings::{Opening, go_on};
+use crate::quoted::QuotedTexts;
 use maplex::{Tail, Token, Tokens};
 use maptree::{Context, Drafts, Stack};
 use mapwords::{
@@ -35,6 +36,8 @@ pub struct Hints<'a> {
     pub name: &'a str,
     /// What the open block lacks of what its END requires, if it lacks something.
     pub missing: Option<&'static str>,
+    /// The quoted texts up to the fault, with its token.
+    pub quoted: QuotedTexts,
 }
 
 /// What is found of a mapfile.
@@ -70,6 +73,7 @@ impl<'a> Walker<'a> {
                 begun: true,
                 name: "",
                 missing: None,
+                quoted: QuotedTexts::NONE,
             },
         })
     }
@@ -78,6 +82,7 @@ impl<'a> Walker<'a> {
     fn note(&mut self, context: Context, token: &Token<'a>)
         ensures { standing self.new.openings self.new.drafts ≡ standing self.old.openings self.old.drafts }
     {
+        self.hints.quoted = self.hints.quoted.after(token);
         self.hints.missing = None;
         match context {
             Context::Values(Block::Layer, Expected::Text(TextKeyword::Name)) => {
@@ -198,6 +203,7 @@ fn outside<'a>(alloc: Global, fault: Fault, token: Option<Token<'a>>) -> Explain
             begun: false,
             name: "",
             missing: None,
+            quoted: QuotedTexts::NONE,
         },
     }
 }

@@ -18,11 +18,13 @@ mod file_messages;
 mod finding;
 mod foreign;
 mod openings;
+mod quoted;
 mod sentence;
+mod unread_value;
 mod unused;
 mod warning;
 
-pub use file_messages::{MapfileAtHand, message_on_files};
+pub use file_messages::{MapfileAtHand, message_on_files, missing_name};
 pub use finding::{Explained, Finding, explain};
 pub use sentence::message_on_source;
 pub use warning::{Concern, Warning, warning_lines, warnings};

@@ -311,13 +311,21 @@ impl<'a> Explained<'a> {
     }
 
     /// The message on the fault, which is one of this source: one sentence without a full stop, which shows no control
-    /// characters. On a bad byte it says what is wrong with it.
+    /// characters. On a bad byte it says what is wrong with it; on another fault also where a quoted text begins that goes over its
+    /// line's end, if the fault may come of that.
     pub fn message(&self, alloc: Global, source: &[u8]) -> Result<String, AllocError>
         ensures { IfOk result (λ message. IsOnKind (byte_fault source.now) self.now.kind (string_bytes message)) }
     {
         match self.kind {
-            ParseKind::Lex(kind) => on_lex(alloc, kind, source),
-            _ => self.message_in_words(alloc),
+            ParseKind::Lex(LexKind::BadByte) => on_lex(alloc, LexKind::BadByte, source),
+            ParseKind::Lex(kind) => {
+                let message = on_lex(alloc, kind, source)?;
+                self.hints.quoted.message(alloc, message)
+            }
+            _ => {
+                let message = self.message_in_words(alloc)?;
+                self.hints.quoted.message(alloc, message)
+            }
         }
     }
 }

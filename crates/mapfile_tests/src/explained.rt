@@ -92,7 +92,7 @@ sound|MAP END
 3: a control character|MAP~~a\u{1}b
 1: the mapfile begins with a byte order mark: save it without one|\u{FEFF}MAP END
 2: the quoted text, expression or list that begins here is not closed|MAP LAYER~NAME 'a
-2: \"a?b?c\" is no keyword of MAP|MAP~'a~b\tc'
+2: \"a?b?c\" is no keyword of MAP: the quoted text that begins in line 2 goes over its line's end|MAP~'a~b\tc'
 1: 1234567890123456789012345678901234567890 is no keyword of MAP|MAP 1234567890123456789012345678901234567890
 1: 1234567890123456789012345678901234567890.. is no keyword of MAP|MAP 12345678901234567890123456789012345678901
 1: éééééééééééééééééééééééééééééééééééééééé.. is no keyword of MAP|MAP ééééééééééééééééééééééééééééééééééééééééé
@@ -124,11 +124,22 @@ sound|MAP END
 2: ('[a]' = \"'~\" = ) is no expression: nothing is read from = ) on|MAP LAYER CLASS EXPRESSION~('[a]' = \"'^\" = )
 2: ([a~b] = ) is no expression: nothing is read from ) on|MAP LAYER CLASS EXPRESSION~([a^b] = )
 2: ([a~b] = 1 AND) is no expression: nothing is read from ) on|MAP LAYER CLASS EXPRESSION~([a^b] = 1 AND)
-2: ([a] = OR '[b]' ~ 'c') is no expression: nothing is read from OR '[b]' ~ 'c') on|MAP LAYER CLASS EXPRESSION~([a] = OR '[b]' ^ 'c')";
+2: ([a] = OR '[b]' ~ 'c') is no expression: nothing is read from OR '[b]' ~ 'c') on|MAP LAYER CLASS EXPRESSION~([a] = OR '[b]' ^ 'c')
+# a closing quote that is missing: another token stands behind the text on its last line, or the text is the fault or the last token
+4: towns.csv is no keyword of LAYER: the quoted text that begins in line 3 goes over its line's end|MAP~LAYER~NAME 'towns~DATA 'towns.csv'~END END
+5: towns.csv is no keyword of LAYER: the quoted text that begins in line 4 goes over its line's end|MAP NAME 'a~b'~LAYER~NAME 'towns~DATA 'towns.csv'~END END
+7: e is no keyword of MAP: the quoted text that begins in line 2 goes over its line's end|MAP WEB METADATA~a 'b~c' d 1~END END~NAME 'x~y'~e
+4: the quoted text, expression or list that begins here is not closed: the quoted text that begins in line 3 goes over its line's end|MAP~WEB METADATA~'wms_title' 'a~'wms_x' 'b'~END END END
+2: \"2?COLOR \" is no value of WIDTH, which takes a count from 1 to 32: the quoted text that begins in line 2 goes over its line's end|MAP LAYER CLASS STYLE~WIDTH '2~COLOR '10 20 30'
+3: the mapfile ends inside LAYER of line 1, which has no END: the quoted text that begins in line 2 goes over its line's end|MAP LAYER~NAME 'a~TYPE LINE END END'
+# a text of two lines with nothing behind it, an expression of two lines, and a bad byte
+3: COLOUR is no keyword of MAP|MAP NAME 'a~b'~COLOUR 1
+2: x is no keyword of CLASS|MAP LAYER CLASS EXPRESSION ('[a]'~= 'b') x
+2: a bracket that closes nothing|MAP NAME 'a~b' SIZE )";
 
 #[test]
 fn faults_are_explained(rt: HostRuntime) -> Result<(), TableFault> {
-    check_rows(rt.alloc(), ROWS, '|', 98, explanation_of_row)
+    check_rows(rt.alloc(), ROWS, '|', 107, explanation_of_row)
 }
 
 // The result for sources with a block, a vertex or an item more than a map may have.

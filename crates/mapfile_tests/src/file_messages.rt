@@ -57,6 +57,11 @@ the file that DATA names is no table of points: row 1: no column of the coordina
 the file that DATA names is no table of points: row 1: no column of the coordinates: x and y are looked for in x,b|a.csv=\u{FEFF}~~x,b|MAP LAYER NAME a TYPE POINT DATA a.csv END END
 the file that DATA names is no table of points: row 1: no column of the coordinates: x and y are looked for in \u{FEFF}x,y|a.csv=~\u{FEFF}x,y|MAP LAYER NAME a TYPE POINT DATA a.csv END END
 none|a.csv=\u{FEFF}~x,y~1,2|MAP LAYER NAME a TYPE POINT DATA a.csv END END
+# the value that is no coordinate, the longitude before the latitude; in the layer that has it
+the file that DATA names is no table of points: row 3: a coordinate that can't be read, or beyond 1,000 degrees: y is \"2,5\"|a.csv=x,y~1,2~3,\"2,5\"~4,5|MAP LAYER NAME a TYPE POINT DATA a.csv END END
+the file that DATA names is no table of points: row 2: a coordinate that can't be read, or beyond 1,000 degrees: lon is \"\"|a.csv=name,lat,lon~b,c,|MAP LAYER NAME a TYPE POINT PROCESSING CSV_X=lon PROCESSING CSV_Y=lat DATA a.csv END END
+the file that DATA names is no table of points: row 2: a coordinate that can't be read, or beyond 1,000 degrees: y is \" 1000.5\"|a.csv=\u{FEFF}x,y~ 1 , 1000.5|MAP LAYER NAME a TYPE POINT DATA a.csv END END
+the file that DATA names is no table of points: row 2: a coordinate that can't be read, or beyond 1,000 degrees: u is \"a?b\"|a.csv=x,y,u~1,2,a\tb|MAP LAYER NAME a TYPE POINT DATA a.csv END LAYER NAME b TYPE POINT PROCESSING CSV_X=u DATA a.csv END END
 # the messages on other faults name no columns
 the file that DATA names is no table of points: row 1: no header|a.csv=~|MAP LAYER NAME a TYPE POINT DATA a.csv END END
 the file that DATA names is no table of points: row 2: another count of fields than the header has|a.csv=x,y~1|MAP LAYER NAME a TYPE POINT DATA a.csv END END
@@ -64,5 +69,5 @@ the file that IMAGE names is no pixmap in Netpbm's P6 format of at most 256 by 2
 
 #[test]
 fn faults_of_files_have_messages(rt: HostRuntime) -> Result<(), TableFault> {
-    check_rows(rt.alloc(), ROWS, '|', 18, messages_of_row)
+    check_rows(rt.alloc(), ROWS, '|', 22, messages_of_row)
 }
