@@ -2,9 +2,9 @@
 """Holds each line of a server's log against what was asked. Usage: logged.py PROGRAM [CLIENTS]
 
 So many clients, 48 where no number is given, have a connection each and send five requests of their own targets, cut into pieces
-anywhere, and the last two at once. An administrator sends three commands. Then the input ends with which the service ends. The log
+anywhere, and the last two at once. The fourth has no CRS and an SRS. An administrator sends three commands. Then the input ends with which the service ends. The log
 is to have, for each answer, its connection, its target, its status and its bytes, in the order of the connection; the connections
-numbered from 1, each client its own; a line for each command; and no other line. A request that follows another one in the same
+numbered from 1, each client its own; a line for each command; a hint behind each fourth answer; and no other line. A request that follows another one in the same
 piece is to have no more milliseconds than its answer took. The exit status is 1 where anything is otherwise.
 """
 import random
@@ -21,11 +21,12 @@ from served import ports_of
 MAP = b"MAP LAYER NAME a TYPE POLYGON CLASS STYLE COLOR 10 20 30 END END FEATURE POINTS 1 1 3 1 3 3 1 3 END END END END\n"
 QUERY = "/wms?VERSION=1.3.0&REQUEST=GetMap&LAYERS=a&STYLES=&CRS=CRS:84&BBOX=0,0,4,4&WIDTH={}&HEIGHT=3&FORMAT=image/x-portable-pixmap&N={}"
 ANSWER = re.compile(r'answer (\d+) "([^"]*)" (\d+) (\d+) (\d+)\n')
+HINT = re.compile(r"hint (\d+) SRS is the name of WMS 1\.1\.1: 1\.3\.0 has CRS\n")
 
 
 def targets_of(number):
     """Five targets of a client: pictures of several sizes, a path that isn't served, and a service exception."""
-    return [QUERY.format(2 + number % 5, number), f"/other/{number}", QUERY.format(7, number), f"/wms?{number}", QUERY.format(9, number)]
+    return [QUERY.format(2 + number % 5, number), f"/other/{number}", QUERY.format(7, number), QUERY.format(3, number).replace("CRS=", "SRS="), QUERY.format(9, number)]
 
 
 def take_answer(stream, kept):
@@ -72,14 +73,18 @@ def administer(port):
 
 
 def is_wrong(clients, commands, lines):
-    answers, others = {}, []
+    answers, hints, others = {}, [], []
     for line in lines:
         found = ANSWER.fullmatch(line)
         if found:
             answers.setdefault(int(found[1]), []).append((found[2], int(found[3]), int(found[4]), int(found[5])))
+        elif found := HINT.fullmatch(line):
+            hints.append((int(found[1]), len(answers.get(int(found[1]), []))))
         else:
             others.append(line)
     wrong = []
+    if sorted(hints) != [(number, 4) for number in range(1, len(clients) + 1)]:
+        wrong.append(f"the hints stand behind these answers: {hints}")
     if sorted(answers) != list(range(1, len(clients) + 1)):
         wrong.append(f"the connections are numbered {sorted(answers)}")
     logged = sorted([line[:3] for line in of_one] for of_one in answers.values())

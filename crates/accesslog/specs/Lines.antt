@@ -4,6 +4,8 @@ use Rattle.std.specs.List.{flat_map}
 use Rattle.std.specs.Fmt.{decimal}
 use Rattle.accesslog.specs.declared.line.AnswerNote.{AnswerNote}
 use Rattle.accesslog.specs.declared.line.Cause.{Cause}
+use Rattle.accesslog.specs.declared.hint.Hint.{Hint}
+use Rattle.accesslog.specs.declared.hint.Hint.TheVariants.{OlderName, NoMercator, UnknownSystem, NotFour, NoNumber, NoAreaByLatitudes, NoArea}
 use Rattle.accesslog.specs.declared.line.Cause.TheVariants.{Idle, Head, Answer, Rate, Fault, GaveWay, Busy, Stopped}
 
 -- a byte is shown by its two hexadecimal digits: those outside 33 to 126, a quotation mark and a backslash
@@ -42,6 +44,20 @@ cause_word Stopped = codes "stopped"
 -- the line on a connection that ended before its client had all of its answers
 abbrev pub end_line : ℕ → Cause → List ℕ
 end_line connection cause = codes "end " ++ (decimal connection ++ (codes " " ++ (cause_word cause ++ codes "\n")))
+
+-- the likely cause of a fault of CRS or BBOX
+unfoldable pub hint_text : Hint → List ℕ
+hint_text OlderName = codes "SRS is the name of WMS 1.1.1: 1.3.0 has CRS"
+hint_text NoMercator = codes "EPSG:3857 isn't offered: CONFIG \"WMS_CRS\" \"EPSG:3857\" in MAP offers it"
+hint_text UnknownSystem = codes "CRS is none of CRS:84, EPSG:4326 and, where the map offers it, EPSG:3857"
+hint_text NotFour = codes "BBOX isn't four numbers between commas"
+hint_text NoNumber = codes "a number of BBOX can't be read or is too large: degrees go to 1,000, and EPSG:3857 is in metres"
+hint_text NoAreaByLatitudes = codes "BBOX has no area: in EPSG:4326 it is south,west,north,east, which WMS 1.1.1 has as west,south,east,north"
+hint_text NoArea = codes "BBOX has no area: it is west,south,east,north"
+
+-- the line on the likely cause of a fault, by the number of its connection
+abbrev pub hint_line : ℕ → Hint → List ℕ
+hint_line connection hint = codes "hint " ++ (decimal connection ++ (codes " " ++ (hint_text hint ++ codes "\n")))
 
 -- the line on a command of an administrator: the number of the connection, and the line that answers it
 abbrev pub command_line : ℕ → List ℕ → List ℕ

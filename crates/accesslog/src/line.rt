@@ -3,8 +3,9 @@
 ghost use Rattle.std.specs.Prelude.{◌≡◌, ◌++◌, ◌<◌, OnOk, IfOk};
 ghost use Rattle.std.specs.List.{flat_map};
 ghost use Rattle.std.specs.Fmt.{decimal};
-ghost use Rattle.accesslog.specs.Lines.{answer_line, cause_word, command_line, dropped_line, end_line, escaped, escaped_byte, hex_digit, is_escaped};
+ghost use Rattle.accesslog.specs.Lines.{answer_line, cause_word, command_line, dropped_line, end_line, escaped, escaped_byte, hex_digit, hint_line, hint_text, is_escaped};
 
+use crate::hint::Hint;
 use itoa::Buffer;
 use std::alloc::{AllocError, Global};
 
@@ -132,6 +133,43 @@ pub fn end_line(alloc: Global, connection: u64, cause: Cause) -> Result<Vec<u8>,
     push_number(&mut line, connection)?;
     line.extend_from_slice(b" ")?;
     line.extend_from_slice(cause_word(cause))?;
+    line.extend_from_slice(b"\n")?;
+    Ok(line)
+}
+
+// The text of a likely cause.
+#[tactic(auto, unfolding(crate::specs::Lines::hint_text))]
+fn hint_text(hint: Hint) -> &'static [u8]
+    ensures { result.now ≡ hint_text hint }
+{
+    match hint {
+        Hint::OlderName => b"SRS is the name of WMS 1.1.1: 1.3.0 has CRS",
+        Hint::NoMercator => {
+            b"EPSG:3857 isn't offered: CONFIG \"WMS_CRS\" \"EPSG:3857\" in MAP offers it"
+        }
+        Hint::UnknownSystem => {
+            b"CRS is none of CRS:84, EPSG:4326 and, where the map offers it, EPSG:3857"
+        }
+        Hint::NotFour => b"BBOX isn't four numbers between commas",
+        Hint::NoNumber => {
+            b"a number of BBOX can't be read or is too large: degrees go to 1,000, and EPSG:3857 is in metres"
+        }
+        Hint::NoAreaByLatitudes => {
+            b"BBOX has no area: in EPSG:4326 it is south,west,north,east, which WMS 1.1.1 has as west,south,east,north"
+        }
+        Hint::NoArea => b"BBOX has no area: it is west,south,east,north",
+    }
+}
+
+/// The line on the likely cause of a fault, behind the line on its answer.
+pub fn hint_line(alloc: Global, connection: u64, hint: Hint) -> Result<Vec<u8>, AllocError>
+    ensures { IfOk result (λ line. line.items ≡ hint_line connection hint) }
+{
+    let mut line = Vec::new(alloc);
+    line.extend_from_slice(b"hint ")?;
+    push_number(&mut line, connection)?;
+    line.extend_from_slice(b" ")?;
+    line.extend_from_slice(hint_text(hint))?;
     line.extend_from_slice(b"\n")?;
     Ok(line)
 }

@@ -4,7 +4,8 @@ ghost use Rattle.std.specs.Prelude.{◌≡◌, ◌++◌, [], None, IfSome, Match
 ghost use Rattle.std.specs.Io.KnownBytes.{Appends};
 ghost use Rattle.turns.specs.Transport.{HasRead, HasWritten};
 
-use crate::line::{Cause, end_line};
+use crate::hint::hint_on;
+use crate::line::{Cause, end_line, hint_line};
 use crate::queue::LogQueue;
 use crate::record::Record;
 use std::alloc::Global;
@@ -89,8 +90,12 @@ impl<T: Transport, R: Clock + Wait + Copy> Transport for LoggedTransport<T, R> {
     ) -> WriteOutcome {
         let outcome = self.inner.write_answer(answered, first, second);
         if let Some(noted) = &mut self.noted {
-            let left = (first.len() as u64).saturating_add(second.len() as u64);
-            note_write(noted, answered, left, outcome);
+            let written = Written {
+                head: first,
+                body: second,
+                outcome,
+            };
+            note_write(noted, answered, written);
         }
         outcome
     }
@@ -107,18 +112,36 @@ fn note_read<R: Clock + Wait + Copy>(noted: &mut AnswerLog<R>, outcome: ReadOutc
     }
 }
 
-// Notes the bytes that a write took of those that were left, and puts the line on a response that was sent whole.
+// What was left of a response, and the outcome of a write of it.
+#[derive(Clone, Copy)]
+struct Written<'a> {
+    head: &'a [u8],
+    body: &'a [u8],
+    outcome: WriteOutcome,
+}
+
+// Notes the bytes that a write took of those that were left. Where the response was sent whole, it puts the line on it, and one on the
+// likely cause of its fault, if that is known.
 fn note_write<R: Clock + Wait + Copy>(
     noted: &mut AnswerLog<R>,
     answered: &Answered<'_>,
-    left: u64,
-    outcome: WriteOutcome,
+    written: Written<'_>,
 ) {
-    let WriteOutcome::Bytes(count) = outcome else {
+    let WriteOutcome::Bytes(count) = written.outcome else {
         return;
     };
+    let left = (written.head.len() as u64).saturating_add(written.body.len() as u64);
     if noted.record.went(answered.is_followed, left, count) {
         let line = noted.record.line(answered, noted.queue.now());
+        noted.queue.put(line);
+        put_hint(noted, answered.target, written.body);
+    }
+}
+
+// Puts the line on the likely cause of the fault that a document is on, if that is known.
+fn put_hint<R: Clock + Wait + Copy>(noted: &mut AnswerLog<R>, target: &[u8], document: &[u8]) {
+    if let Some(hint) = hint_on(noted.alloc, target, document) {
+        let line = hint_line(noted.alloc, noted.record.connection(), hint).ok();
         noted.queue.put(line);
     }
 }

@@ -13,6 +13,8 @@ mod fairness;
 #[cfg(test)]
 mod fakes;
 #[cfg(test)]
+mod hints;
+#[cfg(test)]
 mod logs;
 #[cfg(test)]
 mod room;
