@@ -45,7 +45,7 @@ For more information, try '--help'.
 """
 IN_WORDS = b"fault line 3 kind 2\nbad.map:3: FOO is no keyword of MAP\n"
 NO_ADDRESS = b"%s.map: warning: the service has no wms_onlineresource, and http://localhost/wms? has no port\n"
-NO_SYMBOL = b"fault line 2 kind 7\nmaps/symbol.map:2: the file p.ppm, which IMAGE names, can't be read\n"
+NO_SYMBOL = b"fault line 2 kind 7\nmaps/symbol.map:2: the file p.ppm, which IMAGE names, can't be read: maps/p.ppm is missing\n"
 NOT_UTF8 = b"error: an argument is not UTF-8\n"
 FILES = {
     "good.map": MAP.removesuffix(b"%%\n"),

@@ -11,7 +11,7 @@ use mapdefs::Items;
 use std::alloc::{AllocError, Global};
 use std::io::{self, Read};
 use streams::Flagged;
-use subcommands::{Folder, HasCause, UnreadCause, parent_of, path_of};
+use subcommands::{Folder, HasCause, LookedFor, UnreadCause, parent_of, path_of};
 
 /// A file of a host by its path, which the first read opens.
 #[derive(Drop)]
@@ -92,6 +92,20 @@ fn cause_of(kind: io::ErrorKind) -> UnreadCause
     }
 }
 
+// Why the file of a path can't be read. There is no cause where it can.
+fn why_unread<H: Files>(
+    alloc: Global,
+    host: &H,
+    path: &str,
+) -> Result<Option<UnreadCause>, AllocError> {
+    let mut file = Flagged::new(HostFile::new(host, path));
+    match read_all(alloc, &mut file) {
+        Ok(_) => Ok(None),
+        Err(ReadFault::Input) => Ok(Some(file.cause())),
+        Err(ReadFault::NoMemory) => Err(AllocError),
+    }
+}
+
 /// A folder of a host.
 #[derive(Drop)]
 pub struct HostFolder<'a, H> {
@@ -132,6 +146,14 @@ impl<H: Files> Folder for HostFolder<'_, H> {
             Ok(bytes) => Ok(Some(Items::of(bytes))),
             Err(ReadFault::Input) => Ok(None),
             Err(ReadFault::NoMemory) => Err(AllocError),
+        }
+    }
+
+    fn look(&self, alloc: Global, name: &str) -> Result<Option<LookedFor>, AllocError> {
+        let path = path_of(alloc, self.parent, name)?;
+        match why_unread(alloc, self.host, path.as_str())? {
+            Some(cause) => Ok(Some(LookedFor { path, cause })),
+            None => Ok(None),
         }
     }
 }

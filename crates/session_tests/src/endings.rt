@@ -166,7 +166,7 @@ explain|MAP SYMBOL NAME s TYPE PIXMAP~IMAGE bad.ppm END~SYMBOL NAME t TYPE PIXMA
 check|MAP SYMBOL NAME s TYPE PIXMAP~IMAGE none.ppm END END||1 MapfileFault||fault line 2 kind 7~
 # Mapfiles with the table of a file. Empty lines of a table are no rows.
 explain maps/m.map|MAP LAYER NAME a TYPE POINT~DATA p.csv~END END||0 done|ok 1 layers 1 features~|maps/m.map: warning: the service has no wms_onlineresource, and http://localhost/wms? has no port~maps/m.map: warning: LAYER 1 has features and no CLASS~
-explain maps/m.map|MAP LAYER NAME a TYPE POINT~DATA bad.csv~END END||1 MapfileFault||fault line 2 kind 10~maps/m.map:2: the file that DATA names is no table of points: row 3: a coordinate that can't be read, or beyond 1,000 degrees~
+explain maps/m.map|MAP LAYER NAME a TYPE POINT~DATA bad.csv~END END||1 MapfileFault||fault line 2 kind 10~maps/m.map:2: the file that DATA names is no table of points: row 3: a coordinate that can't be read, or beyond 1,000 degrees: y is \"z\"~
 explain maps/m.map|MAP LAYER NAME a TYPE POINT~DATA p.csv PROCESSING CSV_Y=lat~END END||1 MapfileFault||fault line 2 kind 10~maps/m.map:2: the file that DATA names is no table of points: row 1: no column of the coordinates: x and lat are looked for in x,y~
 explain maps/m.map|MAP LAYER NAME a TYPE POINT~DATA none.csv~END END||1 MapfileFault||fault line 2 kind 7~maps/m.map:2: the file none.csv, which DATA names, can't be read~
 explain|MAP CONFIG LABELFONT f.bdf~END||1 MapfileFault||fault line 1 kind 7~m.map:1: the file f.bdf, which CONFIG names, can't be read~

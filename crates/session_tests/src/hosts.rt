@@ -20,7 +20,11 @@ const COMMAND_LINES: &str = "\
 check a.map||0 done 0 0 0 0 0|ok 0 layers 0 features~|
 check c.map||1 FileFailed 0 0 0 0 0||fault file c.map~
 check s.map||1 MapfileFault 0 0 0 0 0||fault line 2 kind 7~
-check --explain s.map||1 MapfileFault 0 0 0 0 0||fault line 2 kind 7~s.map:2: the file p.ppm, which IMAGE names, can't be read~
+check --explain s.map||1 MapfileFault 0 0 0 0 0||fault line 2 kind 7~s.map:2: the file p.ppm, which IMAGE names, can't be read: p.ppm is missing~
+check --explain maps/n.map||1 MapfileFault 0 0 0 0 0||fault line 3 kind 7~maps/n.map:3: the file q.ppm, which IMAGE names, can't be read: maps/q.ppm is missing~
+check maps/n.map||1 MapfileFault 0 0 0 0 0||fault line 3 kind 7~
+check --explain l.map||1 MapfileFault 0 0 0 0 0||fault line 2 kind 7~l.map:2: the file locked.map, which CONFIG names, can't be read: locked.map may not be read~
+check --explain maps/f.map||1 MapfileFault 0 0 0 0 0||fault line 1 kind 7~maps/f.map:1: the file /maps, which IMAGE names, can't be read: /maps can't be read~
 check --explain a.map||0 done 0 0 0 0 0|ok 0 layers 0 features~|a.map: warning: the service has no wms_onlineresource, and http://localhost/wms? has no port~
 check maps/s.map||0 done 0 0 0 0 0|ok 0 layers 0 features~|
 run a.map b.txt||0 done 0 0 0 0 0|@|
@@ -41,7 +45,7 @@ serve a.map||3 ListenFailed { port: 8080, cause: Taken } 0 0 0 0 0||
 serve a.map --port 81||3 ListenFailed { port: 8081, cause: Other } 0 0 0 0 0||
 serve a.map --admin-port 82||3 ListenFailed { port: 8080, cause: Taken } 0 0 0 0 0||
 serve s.map --port 81 --admin-port 82||1 MapfileFault 0 0 0 0 0||fault line 2 kind 7~
-serve --explain s.map --port 81 --admin-port 82||1 MapfileFault 0 0 0 0 0||fault line 2 kind 7~s.map:2: the file p.ppm, which IMAGE names, can't be read~
+serve --explain s.map --port 81 --admin-port 82||1 MapfileFault 0 0 0 0 0||fault line 2 kind 7~s.map:2: the file p.ppm, which IMAGE names, can't be read: p.ppm is missing~
 serve a.map --port 81 --admin-port 82 --connections 1 --explain|c r|0 done 1 0 1 0 0|listening a port another port~|a.map: warning: the service has no wms_onlineresource, and http://localhost/wms? has no port~
 serve --explain a.map||3 ListenFailed { port: 8080, cause: Taken } 0 0 0 0 0||a.map: warning: the service has no wms_onlineresource, and http://localhost/wms? has no port~error: port 8080 of 127.0.0.1 is taken~
 serve --explain a.map --port 80||3 ListenFailed { port: 80, cause: NotAllowed } 0 0 0 0 0||a.map: warning: the service has no wms_onlineresource, and http://localhost/wms? has no port~error: port 80 of 127.0.0.1 may not be listened on~
@@ -152,7 +156,7 @@ fn arguments_are_answered_with_the_files_of_a_host(rt: HostRuntime) -> Result<()
     check_all(
         rt.alloc(),
         COMMAND_LINES,
-        43,
+        47,
         |_, line| is_ended(&rt, &rt, line),
     )
 }

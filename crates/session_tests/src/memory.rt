@@ -4,7 +4,7 @@ use mapdefs::Items;
 use std::alloc::{AllocError, Global};
 use std::io::{self, Read, Write};
 use streams::Flagged;
-use subcommands::{Folder, HasCause, UnreadCause};
+use subcommands::{Folder, HasCause, LookedFor, UnreadCause};
 
 /// A stream in memory: it gives and takes so many bytes at once, and one of its calls fails, as one that isn't allowed.
 #[derive(Drop)]
@@ -102,5 +102,10 @@ impl Folder for SomeFiles {
         let mut copy = Vec::new(alloc);
         copy.extend_from_slice(bytes)?;
         Ok(Some(Items::of(copy)))
+    }
+
+    // Where a file was looked for isn't known.
+    fn look(&self, _alloc: Global, _name: &str) -> Result<Option<LookedFor>, AllocError> {
+        Ok(None)
     }
 }

@@ -320,7 +320,7 @@ impl Port<Call> for Letters {
 }
 
 // The files of a host by their paths.
-const FILES: [(&str, &str); 6] = [
+const FILES: [(&str, &str); 9] = [
     ("a.map", "MAP END\n"),
     ("t.map", "MAP WEB METADATA wms_title two END END END\n"),
     ("b.txt", "QUERY a\n"),
@@ -333,6 +333,15 @@ const FILES: [(&str, &str); 6] = [
         "MAP SYMBOL NAME s TYPE PIXMAP\nIMAGE p.ppm END END\n",
     ),
     ("maps/p.ppm", "P6 1 1 255 abc"),
+    (
+        "maps/n.map",
+        "MAP SYMBOL NAME s TYPE PIXMAP IMAGE p.ppm END\nSYMBOL NAME t TYPE PIXMAP\nIMAGE q.ppm END END\n",
+    ),
+    ("l.map", "MAP\nCONFIG LABELFONT locked.map END\n"),
+    (
+        "maps/f.map",
+        "MAP SYMBOL NAME s TYPE PIXMAP IMAGE /maps END END\n",
+    ),
 ];
 
 /// A host with those files, the folder `maps`, and `locked.map`, which may not be read. Its ports 81 and 82 have these letters; no other can be listened on.
@@ -390,7 +399,7 @@ impl Files for Shelf<'_> {
         }
         Err(io::Error::from(match path {
             "locked.map" => io::ErrorKind::PermissionDenied,
-            "maps" => io::ErrorKind::IsADirectory,
+            "maps" | "/maps" => io::ErrorKind::IsADirectory,
             _ => io::ErrorKind::NotFound,
         }))
     }

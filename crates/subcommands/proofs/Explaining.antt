@@ -1,5 +1,5 @@
 -- The fault of a mapfile, with the message on it.
-use Rattle.std.proofs.Common.{◌≡◌, ap, ◌∙◌, refl, subst, Bool, false, ℕ, List, Option, None, Some, Result, Ok, Err}
+use Rattle.std.proofs.Common.{◌≡◌, ◌⊎◌, inl, inr, ap, ◌∙◌, refl, subst, Bool, false, ℕ, List, Option, None, Some, Result, Ok, Err}
 use Rattle.std.specs.Option.{IfSome}
 use Rattle.maplex.specs.Lexed.{lexed}
 use Rattle.mapdefs.specs.declared.map.MapFields.{MapFields}
@@ -17,7 +17,7 @@ use Rattle.mapparse.specs.Fault.{fault_in, kind_of}
 use Rattle.mapparse.specs.Mapping.{map_of, reported_by}
 use Rattle.mapparse.specs.Uses.{uses_of}
 use Rattle.mapfaults.specs.Missing.{AreOnCause, AreOnFiles, NamesMissing}
-use Rattle.subcommands.specs.Explained.{IsMapFault, NamesFirst, with_message}
+use Rattle.subcommands.specs.Explained.{AreFollowed, AreOnFilesOf, IsMapFault, IsPlaceOf, NamesFirst, NamesPlace, with_message}
 use Rattle.subcommands.specs.Folder.{ComesTo, FilesOf, Giving}
 use Rattle.subcommands.specs.Mapfiles.{HasReadFile, HasReadMapfile}
 
@@ -34,17 +34,34 @@ names (NoPixmap fault) files tree message e on = absurd (cc e)
 names (NoTable fault) files tree message e on = absurd (cc e)
 names (NoFont fault) files tree message e on = absurd (cc e)
 
-named : (mapfile : List ℕ) (tree : MapTree) (files : List FileBytes) (fault : Fault) (message : Option (List ℕ)) → tree_of (lexed mapfile) ≡ Ok tree →
-    map_of files tree ≡ Err fault → IfSome message (AreOnFiles files tree) → fault.kind ≡ MissingFile → IfSome message (NamesFirst files mapfile)
-named mapfile tree files fault None read is on e = tt
-named mapfile tree files fault (Some message) read is on e =
+-- the same of a message that may say where the file was looked for: that file is the one that is named
+names-place : (files : List FileBytes) (tree : MapTree) (message : List ℕ) (on : AreFollowed files tree message) →
+    NamesMissing files tree on.first → NamesPlace files tree message
+names-place files tree message on missing =
+    let same : on.place.name ≡ missing.name = cc (on.place.is_first, missing.is_first) in
+    record { first = on.first; names = missing; more = on.more; place = subst (λ (n : List ℕ). IsPlaceOf n on.more) same on.place.place; says = on.says }
+
+-- the fault that is reported is of a missing file, where its kind says so
+missing : (tree : MapTree) (files : List FileBytes) (fault : Fault) (message : List ℕ) → map_of files tree ≡ Err fault → fault.kind ≡ MissingFile →
+    AreOnFiles files tree message → NamesMissing files tree message
+missing tree files fault message is e on =
     let same : fault_in on.fault ≡ fault = reported _ _ fault (rw on.is_first at is) in
-    record { tree = tree; is_read = read; names = names on.fault.cause files tree message (ap (λ (f : Fault). f.kind) same ∙ e) on.on }
+    names on.fault.cause files tree message (ap (λ (f : Fault). f.kind) same ∙ e) on.on
+
+both : (tree : MapTree) (files : List FileBytes) (fault : Fault) (message : List ℕ) → map_of files tree ≡ Err fault → fault.kind ≡ MissingFile →
+    AreOnFilesOf files tree message → NamesMissing files tree message ⊎ NamesPlace files tree message
+both tree files fault message is e (inl on) = inl (missing tree files fault message is e on)
+both tree files fault message is e (inr on) = inr (names-place files tree message on (missing tree files fault on.first is e on.on))
+
+named : (mapfile : List ℕ) (tree : MapTree) (files : List FileBytes) (fault : Fault) (message : Option (List ℕ)) → tree_of (lexed mapfile) ≡ Ok tree →
+    map_of files tree ≡ Err fault → IfSome message (AreOnFilesOf files tree) → fault.kind ≡ MissingFile → IfSome message (NamesFirst files mapfile)
+named mapfile tree files fault None read is on e = tt
+named mapfile tree files fault (Some message) read is on e = record { tree = tree; is_read = read; names = both tree files fault message is e on }
 
 -- the fault of a file, with the message on it
 pub of-files : (gives : Giving) (explains : Bool) (mapfile : List ℕ) (tree : MapTree) (files : List FileBytes) (fault : ParseFault) (message : Option (List ℕ)) →
     tree_of (lexed mapfile) ≡ Ok tree → FilesOf gives (uses_of tree) files → IsFaultOf (map_of files tree) fault →
-    (explains ≡ false → message ≡ None) → IfSome message (AreOnFiles files tree) → IsMapFault gives explains mapfile (with_message fault message)
+    (explains ≡ false → message ≡ None) → IfSome message (AreOnFilesOf files tree) → IsMapFault gives explains mapfile (with_message fault message)
 of-files gives explains mapfile tree files NoMemory message read are is unasked on = tt
 of-files gives explains mapfile tree files (At line kind) message read are is unasked on = record {
   is_fault = record {

@@ -22,6 +22,11 @@ parent_before parent (b ∷ bs) = if b == 47 then [] else parent
 abbrev pub path_of : List ℕ → List ℕ → List ℕ
 path_of parent name = parent_before parent name ++ name
 
+-- a path is that of a name in some folder
+pub record IsPathOf (name path : List ℕ) : Type 0 where
+  pub parent : List ℕ
+  pub is : path ≡ path_of parent name
+
 -- the content of a folder by names: bytes, or none
 abbrev pub Giving : Type 1
 Giving = List ℕ → Option (List ℕ) → Type 0

@@ -10,6 +10,16 @@ cause_message Missing = codes ": the file is missing\n"
 cause_message NotAllowed = codes ": the file may not be read\n"
 cause_message Other = codes ": the file can't be read\n"
 
+-- why a file that a mapfile names can't be read, in a message that follows its path
+unfoldable pub place_words : UnreadCause → List ℕ
+place_words Missing = codes " is missing"
+place_words NotAllowed = codes " may not be read"
+place_words Other = codes " can't be read"
+
+-- where a file was looked for, and why it can't be read, in a message that follows another one
+abbrev pub place_message : List ℕ → UnreadCause → List ℕ
+place_message path cause = codes ": " ++ (path ++ place_words cause)
+
 -- a file that is read by its name, and why it can't be read, if it can't
 pub record ReadFile : Type 0 where
   pub name : List ℕ

@@ -2,13 +2,15 @@ ghost use Rattle.std.specs.Prelude.{◌≡◌, ℕ, List, [], ◌∷◌, ◌++�
 ghost use Rattle.mapparse.specs.Uses.{uses_of};
 ghost use Rattle.subcommands.specs.Folder.{FilesOf, IsParent, parent_before, path_of};
 
+use crate::unread::UnreadCause;
 use mapdefs::{Items, Text};
 use mapparse::{Files, Mapfile};
 use std::alloc::{AllocError, Global};
 
 /// A folder, whose files are read by the names that mapfiles have for them.
 pub trait Folder {
-    ghost use Rattle.std.specs.Prelude.{ℕ, List, Option};
+    ghost use Rattle.std.specs.Prelude.{ℕ, List, Option, IfOk, IfSome};
+    ghost use Rattle.subcommands.specs.Folder.{IsPathOf};
 
     /// The folder gives these bytes under a name, or none where it has no such file that can be read.
     ghost gives: { Self → List ℕ → Option (List ℕ) → Type 0 };
@@ -16,6 +18,19 @@ pub trait Folder {
     /// The bytes of the file of a name. There are none where it can't be read.
     fn read(&self, alloc: Global, name: &str) -> Result<Option<Items<u8>>, AllocError>
         ensures { IfOk result (λ bytes. gives self.now name.now bytes) };
+
+    /// Where the file of a name is looked for, and why it can't be read. There is none where it can be read.
+    fn look(&self, alloc: Global, name: &str) -> Result<Option<LookedFor>, AllocError>
+        ensures { IfOk result (λ looked. IfSome looked (λ found. IsPathOf name.now found.path)) };
+}
+
+/// Where a file was looked for, and why it can't be read.
+#[derive(Drop)]
+pub struct LookedFor {
+    /// The path.
+    pub path: Text,
+    /// The cause.
+    pub cause: UnreadCause,
 }
 
 /// The parent of a file in its path: all up to the last slash, or the empty text where there is none.

@@ -15,6 +15,7 @@ mod line;
 mod map_fault;
 mod map_summary;
 mod parts;
+mod places;
 mod playing;
 mod reading;
 mod reports;
@@ -22,7 +23,7 @@ mod running;
 mod unread;
 
 pub use checking::check;
-pub use folder::{Folder, parent_of, path_of};
+pub use folder::{Folder, LookedFor, parent_of, path_of};
 pub use job::{Job, NamedFile};
 pub use map_summary::summary;
 pub use parts::split_session;

@@ -1,5 +1,4 @@
 ghost use Rattle.std.specs.Prelude.{◌≡◌, ◌⊎◌, IfOk, IfErr, IfSome, None, OnOk, Ok, false, true};
-ghost use Rattle.mapfaults.specs.Missing.{AreOnFiles};
 ghost use Rattle.subcommands.specs.Explained.{IsMapFault, has_missing};
 ghost use Rattle.subcommands.specs.Folder.{ComesTo};
 ghost use Rattle.subcommands.specs.Mapfiles.{HasReadFile, HasReadMap, HasReadMapfile, GivesNoMap, IsUnread, LeavesFile, ReportsWarnings, TouchesNeither};
@@ -8,11 +7,12 @@ ghost use Rattle.subcommands.specs.Reports.{ReadFile};
 use crate::folder::{Folder, files_of};
 use crate::job::{Job, NamedFile};
 use crate::map_fault::MapFault;
+use crate::places::file_message;
 use crate::reports::{report_explained, report_file};
 use crate::unread::HasCause;
 use console::{Failure, ReadFault, Reads, Writes, read_all, report};
 use mapdefs::{Map, Text};
-use mapfaults::{MapfileAtHand, message_on_files, message_on_source, warning_lines};
+use mapfaults::{MapfileAtHand, message_on_source, warning_lines};
 use mapparse::{Files, Mapfile, ParseFault, ParseKind};
 use std::alloc::Global;
 use streams::{Sink, Source};
@@ -30,18 +30,6 @@ fn source_message(alloc: Global, explains: bool, source: &[u8], fault: &ParseFau
         } => None,
         ParseFault::At { .. } if explains => message_on_source(alloc, source),
         _ => None,
-    }
-}
-
-// The message on a fault of the files of a mapfile, where it is requested.
-fn file_message(alloc: Global, explains: bool, at_hand: MapfileAtHand<'_>) -> Option<Text>
-    ensures unasked { explains ≡ false → result ≡ None }
-    ensures on { IfSome result (AreOnFiles at_hand.entry.files.now at_hand.entry.mapfile.now) }
-{
-    if explains {
-        message_on_files(alloc, at_hand)
-    } else {
-        None
     }
 }
 
@@ -70,7 +58,7 @@ pub fn read_map_of<F: Folder>(
         mapfile: &mapfile,
         files: &files,
     };
-    let message = file_message(alloc, explains, at_hand);
+    let message = file_message(alloc, explains, folder, at_hand);
     match mapfile.into_map(alloc, &files) {
         Ok(map) => Ok((map, files)),
         Err(fault) => Err(MapFault::new(fault, message)),
