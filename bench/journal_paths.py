@@ -23,6 +23,7 @@ from served import ports_of
 LIB = pathlib.Path(__file__).resolve().parent.parent / "deploy" / "lib"
 
 MAP = "MAP EXTENT 0 0 8 8 LAYER NAME a TYPE POINT STATUS ON CLASS STYLE COLOR 10 20 30 SIZE 1 END END END END\n"
+WARNING = "map.map: warning: the service has no wms_onlineresource, and http://localhost/wms? has no port\n"
 HEADER = b"KESMOCH JOURNAL 1\n"
 # The bytes of a journal without a record.
 EMPTY = len(HEADER) + 32
@@ -112,10 +113,11 @@ class Server:
         return self.process.returncode, errors.decode()
 
 
-def refused(program, folder, message, journal="journal", user=None):
-    """That no server starts with a journal, and says why."""
-    done = subprocess.run(words(program, journal), cwd=folder, capture_output=True, timeout=30, user=user)
-    expect("how it ended", (done.returncode, done.stderr.decode()), (3, f"fault journal {journal}: {message}\n"))
+def refused(program, folder, message, journal="journal", user=None, explained=""):
+    """That no server starts with a journal, and says why; and the line after that, where it is to explain how it ends."""
+    for options, before, after in (((), "", ""), (["--explain"], WARNING, explained)):
+        done = subprocess.run(words(program, journal, *options), cwd=folder, capture_output=True, timeout=30, user=user)
+        expect("how it ended", (done.returncode, done.stderr.decode()), (3, f"{before}fault journal {journal}: {message}\n{after}"))
 
 
 def as_nobody(program, folder):
@@ -180,7 +182,7 @@ def an_empty_name_leaves_nothing(program, folder):
 
 
 def folders_that_are_missing_are_refused(program, folder):
-    refused(program, folder, "it can't be read or written", journal="missing/journal")
+    refused(program, folder, "it can't be read or written", journal="missing/journal", explained="error: the folder of the journal is missing\n")
 
 
 def folders_are_refused(program, folder):

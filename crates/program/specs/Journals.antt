@@ -1,5 +1,5 @@
 -- The journal of a map that is served (docs/SERVICE.md, "Journal").
-use Rattle.std.specs.Prelude.{◌≡◌, ◌⊎◌, ◌&&◌, ◌==◌, ◌+◌, ◌*◌, if◌then◌else◌, ℕ, Bool, not, MatchBool, List, [], ◌++◌, length, Option, None, Some, Err, codes}
+use Rattle.std.specs.Prelude.{◌≡◌, ◌⊎◌, ◌&&◌, ◌==◌, ◌+◌, ◌*◌, if◌then◌else◌, ℕ, Bool, true, false, not, MatchBool, List, [], ◌++◌, length, Option, None, Some, Err, codes}
 use Rattle.std.specs.List.{flat_map}
 use Rattle.std.specs.Fmt.{decimal}
 use Rattle.sha2.specs.Sha256.{sha256}
@@ -90,6 +90,7 @@ log_message log_fault.Full = codes "its disk is full"
 log_message log_fault.NoTarget = codes "it is a link to a file that isn't there"
 log_message log_fault.Appeared = codes "another program makes it"
 log_message log_fault.Replaced = codes "it was removed or replaced"
+log_message log_fault.NoFolder = codes "it can't be read or written"
 log_message log_fault.Failed = codes "it can't be read or written"
 log_message log_fault.NoMemory = codes "out of memory"
 
@@ -115,9 +116,14 @@ failure_of (fault.Log log_fault.NoMemory) = failure.NoMemory
 failure_of (fault.Log cause) = failure.JournalFailed
 failure_of other = failure.JournalFault
 
--- the line that reports it, with the path of the journal
-abbrev pub journal_fault : List ℕ → JournalFault → List ℕ
-journal_fault path why = codes "fault journal " ++ (path ++ (codes ": " ++ (fault_message why ++ (number_text why ++ codes "\n"))))
+-- the end of the line that reports it; where it is explained, a line follows on a folder that is missing
+unfoldable pub fault_end : Bool → JournalFault → List ℕ
+fault_end true (fault.Log log_fault.NoFolder) = codes "\nerror: the folder of the journal is missing\n"
+fault_end explains why = codes "\n"
+
+-- the line that reports it, with the path of the journal, and explains it or not
+abbrev pub journal_fault : List ℕ → Bool → JournalFault → List ℕ
+journal_fault path explains why = codes "fault journal " ++ (path ++ (codes ": " ++ (fault_message why ++ (number_text why ++ fault_end explains why))))
 
 -- a host gave no log for a path, or memory was refused
 abbrev pub is_unopened : JournalFault → Type 0
@@ -169,5 +175,5 @@ ReportsCut requested path cut old new = MatchBool (requested && not (cut == 0)) 
 
 -- where the journal of a service failed, that is reported at its end, with the cause
 abbrev pub ReportsEnd : List ℕ → Outcome → Option LogCause → WriterState → WriterState → Type 0
-ReportsEnd path (Err failure.JournalFailed) cause old new = IsReported old new (journal_fault path (fault.Log (fault_of_cause cause)))
+ReportsEnd path (Err failure.JournalFailed) cause old new = IsReported old new (journal_fault path false (fault.Log (fault_of_cause cause)))
 ReportsEnd path outcome cause old new = new ≡ old

@@ -140,19 +140,19 @@ pub record IsJournalServed {P L : Type 0} (host : HostView P L) (requested : Req
   pub reported : ReportsEnd path ending.outcome ending.cause between written.later_errors
 
 -- nothing was served, since the journal wasn't opened, which was reported
-pub record IsWithoutJournal {P L : Type 0} (host : HostView P L) (path : List ℕ) (read : FingerprintedMap) (ending : EndingValue P L) (written : Written) : Type 0 where
+pub record IsWithoutJournal {P L : Type 0} (host : HostView P L) (path : List ℕ) (explains : Bool) (read : FingerprintedMap) (ending : EndingValue P L) (written : Written) : Type 0 where
   pub why : JournalFault
   pub is_unopened : IsUnopened host.journal path read.fingerprint (opened read.map) why
   pub ends : ending ≡ unserved (Err (failure_of why))
   pub output : written.later_output ≡ written.output
-  pub reported : IsReported written.errors written.later_errors (journal_fault path why)
+  pub reported : IsReported written.errors written.later_errors (journal_fault path explains why)
 
 -- a map was served: as it begins, or, with the journal of a path, after its batches
 abbrev pub ServesMap : {P L : Type 0} → HostView P L → Requested → FingerprintedMap → EndingValue P L → Written → Type 0
 ServesMap host requested read ending written = MatchOption requested.journal
     (ServesMachine host by_journal (record { machine = opened read.map; keeper = None; service = requested.service }) ending written.output written.later_output
     × (written.later_errors ≡ written.errors))
-    (λ path. IsWithoutJournal host path read ending written ⊎ IsJournalServed host requested path read ending written)
+    (λ path. IsWithoutJournal host path requested.explains read ending written ⊎ IsJournalServed host requested path read ending written)
 
 -- a mapfile that is read: its name, the files that it may name, and the rest of its own before and after
 pub record MapfileReading : Type 1 where

@@ -33,6 +33,9 @@ pub enum OpenFault {
     /// Its path is a symbolic link to a file that isn't there, as on a disk that isn't mounted.
     #[error("the log is a link to a file that isn't there")]
     NoTarget,
+    /// Its folder is missing.
+    #[error("the log's folder is missing")]
+    NoFolder,
     /// Its path led to no file, and then to one: another program makes it.
     #[error("another program makes the log")]
     Appeared,

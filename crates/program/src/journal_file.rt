@@ -112,12 +112,20 @@ fn name_file(rt: &HostRuntime, other: &str, path: &str) -> Result<bool, OpenFaul
     }
 }
 
+// The same, where the error says that the folder of the path is missing.
+fn open_in_folder(rt: &HostRuntime, path: &str) -> Result<(File, String), OpenFault> {
+    match open_beside(rt, path) {
+        Ok(Some(opened)) => Ok(opened),
+        Ok(None) => Err(OpenFault::Failed),
+        Err(error) if error.kind() == ErrorKind::NotFound => Err(OpenFault::NoFolder),
+        Err(error) => Err(OpenFault::from(error)),
+    }
+}
+
 // Makes the file of a path with these bytes: under another name first, so that the path has all of them or no file, and nothing that
 // has the path is replaced.
 fn make(rt: &HostRuntime, path: &str, bytes: &[u8]) -> Result<File, OpenFault> {
-    let Some((mut file, other)) = open_beside(rt, path)? else {
-        return Err(OpenFault::Failed);
-    };
+    let (mut file, other) = open_in_folder(rt, path)?;
     let is_named = match fill(&mut file, bytes) {
         Ok(()) => name_file(rt, other.as_str(), path),
         Err(fault) => Err(fault),

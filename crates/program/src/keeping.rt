@@ -8,7 +8,7 @@ ghost use Rattle.journal.specs.Fingerprint.{file_message};
 ghost use Rattle.journalfile.specs.Settled.{GarblesNoRecord};
 ghost use Rattle.subcommands.specs.Mapfiles.{TouchesNeither};
 ghost use Rattle.subcommands.specs.Session.{opened};
-ghost use Rattle.program.specs.Journals.{IsOpened, IsUnopened, ReportsCut, ReportsEnd, cut_line, failure_of, fault_message, given_message, is_unopened, journal_fault, journal_view, log_message, map_fingerprint, number_text};
+ghost use Rattle.program.specs.Journals.{IsOpened, IsUnopened, ReportsCut, ReportsEnd, cut_line, failure_of, fault_end, fault_message, given_message, is_unopened, journal_fault, journal_view, log_message, map_fingerprint, number_text};
 
 use crate::causes::fault_of_cause;
 use crate::host::{Files, Host, OpenFault};
@@ -104,33 +104,57 @@ fn log_message(cause: OpenFault) -> &'static [u8]
         OpenFault::NoTarget => b"it is a link to a file that isn't there",
         OpenFault::Appeared => b"another program makes it",
         OpenFault::Replaced => b"it was removed or replaced",
-        OpenFault::Failed => b"it can't be read or written",
+        OpenFault::NoFolder | OpenFault::Failed => b"it can't be read or written",
         OpenFault::NoMemory => b"out of memory",
     }
 }
 
+// The end of the line on a fault, and the line that explains it where that is requested and there is one.
+#[tactic(auto, unfolding(crate::specs::Journals::fault_end))]
+fn fault_end(explains: bool, fault: JournalFault) -> &'static [u8]
+    ensures { result.now ≡ fault_end explains fault }
+{
+    match (explains, fault) {
+        (true, JournalFault::Log(OpenFault::NoFolder)) => {
+            b"\nerror: the folder of the journal is missing\n"
+        }
+        _ => b"\n",
+    }
+}
+
 // Reports a fault, in parts.
-fn report_parts<'a, E: Sink>(errors: &mut E, path: &'a [u8], message: &'a [u8], number: &'a [u8])
+fn report_parts<'a, E: Sink>(
+    errors: &mut E,
+    path: &'a [u8],
+    message: &'a [u8],
+    rest: (&'a [u8], &'a [u8]),
+)
     ensures { IsReported (⟦<E as Writes>⟧.state errors.old) (⟦<E as Writes>⟧.state errors.new)
-        (codes "fault journal " ++ (path.now ++ (codes ": " ++ (message.now ++ (number.now ++ codes "\n"))))) }
+        (codes "fault journal " ++ (path.now ++ (codes ": " ++ (message.now ++ (rest.0.now ++ rest.1.now))))) }
 {
     report(
         errors,
-        &[b"fault journal ", path, b": ", message, number, b"\n"],
+        &[b"fault journal ", path, b": ", message, rest.0, rest.1],
     );
 }
 
-/// Reports why a map has no journal, with the journal's path.
-pub(crate) fn report_journal_fault<E: Sink>(errors: &mut E, path: &str, fault: JournalFault)
-    ensures { IsReported (⟦<E as Writes>⟧.state errors.old) (⟦<E as Writes>⟧.state errors.new) (journal_fault path.now fault) }
+/// Reports why a map has no journal, with the journal's path, and explains it where that is requested.
+pub(crate) fn report_journal_fault<E: Sink>(
+    errors: &mut E,
+    path: &str,
+    explains: bool,
+    fault: JournalFault,
+)
+    ensures { IsReported (⟦<E as Writes>⟧.state errors.old) (⟦<E as Writes>⟧.state errors.new) (journal_fault path.now explains fault) }
 {
+    let end = fault_end(explains, fault);
     match fault.number() {
         Some(number) => {
             let mut digits = Buffer::new();
             let number = digits.format(number).as_bytes();
-            report_parts(errors, path.as_bytes(), fault.message(), number);
+            report_parts(errors, path.as_bytes(), fault.message(), (number, end));
         }
-        None => report_parts(errors, path.as_bytes(), fault.message(), b""),
+        None => report_parts(errors, path.as_bytes(), fault.message(), (b"", end)),
     }
 }
 
@@ -179,7 +203,12 @@ pub(crate) fn report_end<E: Sink>(
     ensures { ReportsEnd path.now outcome cause (⟦<E as Writes>⟧.state errors.old) (⟦<E as Writes>⟧.state errors.new) }
 {
     if let Err(Failure::JournalFailed) = outcome {
-        report_journal_fault(errors, path, JournalFault::Log(fault_of_cause(cause)));
+        report_journal_fault(
+            errors,
+            path,
+            false,
+            JournalFault::Log(fault_of_cause(cause)),
+        );
     }
 }
 

@@ -324,7 +324,7 @@ impl<R: Runtime, H: Host> Program<'_, R, H> {
         let opened = match self.open_kept(read, path) {
             Ok(opened) => opened,
             Err(fault) => {
-                report_journal_fault(&mut console.errors, path, fault);
+                report_journal_fault(&mut console.errors, path, journaled.explains, fault);
                 return Ending::after(Err(fault.failure()));
             }
         };

@@ -44,6 +44,9 @@ serve a.map --port 81 --admin-port 82 --journal denied.journal||3 JournalFailed 
 serve a.map --port 81 --admin-port 82 --journal cd.journal||3 JournalFailed 0 0 0 0||fault journal cd.journal: its file system is read-only~
 serve a.map --port 81 --admin-port 82 --journal full.journal||3 JournalFailed 0 0 0 0||fault journal full.journal: its disk is full~
 serve a.map --port 81 --admin-port 82 --journal link.journal||3 JournalFailed 0 0 0 0||fault journal link.journal: it is a link to a file that isn't there~
+serve a.map --port 81 --admin-port 82 --journal away/a.journal||3 JournalFailed 0 0 0 0||fault journal away/a.journal: it can't be read or written~
+serve --explain a.map --port 81 --admin-port 82 --journal away/a.journal||3 JournalFailed 0 0 0 0||a.map: warning: the service has no wms_onlineresource, and http://localhost/wms? has no port~fault journal away/a.journal: it can't be read or written~error: the folder of the journal is missing~
+serve --explain a.map --port 81 --admin-port 82 --journal folder||3 JournalFailed 0 0 0 0||a.map: warning: the service has no wms_onlineresource, and http://localhost/wms? has no port~fault journal folder: it can't be read or written~
 serve a.map --port 81 --admin-port 82 --journal made.journal||3 JournalFailed 0 0 0 0||fault journal made.journal: another program makes it~
 serve a.map --port 81 --admin-port 82 --journal small.journal||4 NoMemory 0 0 0 0||fault journal small.journal: out of memory~
 serve c.map --port 81 --admin-port 82 --journal none.journal||1 FileFailed 0 0 0 0||fault file c.map~
@@ -77,5 +80,5 @@ fn is_ended<R: Runtime>(rt: &R, system: &HostRuntime, line: &str) -> Result<bool
 
 #[test]
 fn batches_are_kept_in_the_journal_that_is_named(rt: HostRuntime) -> Result<(), TableFault> {
-    check_all(rt.alloc(), JOURNALS, 34, |_, line| is_ended(&rt, &rt, line))
+    check_all(rt.alloc(), JOURNALS, 37, |_, line| is_ended(&rt, &rt, line))
 }

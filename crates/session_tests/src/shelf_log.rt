@@ -192,6 +192,7 @@ pub fn log_of(
         "cd.journal" => return Err(OpenFault::ReadOnly),
         "full.journal" => return Err(OpenFault::Full),
         "link.journal" => return Err(OpenFault::NoTarget),
+        "away/a.journal" => return Err(OpenFault::NoFolder),
         "made.journal" => return Err(OpenFault::Appeared),
         "small.journal" => return Err(OpenFault::NoMemory),
         "fresh.journal"
