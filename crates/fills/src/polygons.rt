@@ -13,10 +13,10 @@ use scanfill::{FlipFault, Polygon};
 use scene::Scene;
 use std::alloc::AllocError;
 
-/// Fills the rings of a polygon by a style, where it has a colour: by the flips of their edges, or by a sweep where a row
-/// would have too many flips. The canvas is as wide and as high as the scene's picture. It takes memory for the table of
-/// the rows' latitudes, once a picture, and for flips or for the edges of the sweep. Where memory is refused, some rows may
-/// be filled already.
+/// Fills the rings of a polygon by a style, where it has a colour: by the flips of their edges, or by a sweep where these
+/// are too many in all. The canvas is as wide and as high as the scene's picture. It takes memory for the table of the
+/// rows' latitudes, once a picture, and for flips or for the edges of the sweep. Where memory is refused, some rows may be
+/// filled already.
 pub fn fill_rings(
     canvas: &mut Canvas,
     scene: &Scene<'_>,

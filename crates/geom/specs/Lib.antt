@@ -9,7 +9,6 @@ pub mod Natural
 pub mod Number
 pub mod PxBox
 pub mod Range
-pub mod Scale
 pub mod Side
 pub mod World
 pub mod Written

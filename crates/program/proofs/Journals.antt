@@ -3,7 +3,8 @@ use Rattle.std.proofs.lemmas.Bool.Decides.{nat_tests}
 use Rattle.std.proofs.Common.{ap, arith, subst, sym, ◌∙◌, ◌≡◌, ◌≢◌, ◌&&◌, ◌==◌, refl, ℕ, zero, suc, Bool, true, false, not, List, ◌++◌, Option, None, Some}
 use Rattle.std.specs.Prelude.{MatchBool}
 use Rattle.journalfile.proofs.Skipping.{empties, empties_short}
-use Rattle.journalfile.specs.Keeping.{JournalHas, keeps_of}
+use Rattle.journalfile.specs.Keeping.{JournalHas}
+use Rattle.keepers.specs.Keeping.{keeps_of}
 use Rattle.journalfile.specs.declared.writing.Journal.{Journal}
 use Rattle.batches.specs.Batch.{State}
 use Rattle.journal.specs.Name.{IsBounded, skipped_of}
