@@ -116,14 +116,14 @@ failure_of (fault.Log log_fault.NoMemory) = failure.NoMemory
 failure_of (fault.Log cause) = failure.JournalFailed
 failure_of other = failure.JournalFault
 
--- the end of the line that reports it; where it is explained, a line follows on a folder that is missing
-unfoldable pub fault_end : Bool → JournalFault → List ℕ
-fault_end true (fault.Log log_fault.NoFolder) = codes "\nerror: the folder of the journal is missing\n"
-fault_end explains why = codes "\n"
+-- what follows the message on a folder that is missing, where that is explained: a line of its own, without its end
+unfoldable pub fault_more : JournalFault → Bool → List ℕ
+fault_more (fault.Log log_fault.NoFolder) true = codes "\nerror: the folder of the journal is missing"
+fault_more why explains = []
 
 -- the line that reports it, with the path of the journal, and explains it or not
 abbrev pub journal_fault : List ℕ → Bool → JournalFault → List ℕ
-journal_fault path explains why = codes "fault journal " ++ (path ++ (codes ": " ++ (fault_message why ++ (number_text why ++ fault_end explains why))))
+journal_fault path explains why = codes "fault journal " ++ (path ++ (codes ": " ++ (fault_message why ++ (number_text why ++ (fault_more why explains ++ codes "\n")))))
 
 -- a host gave no log for a path, or memory was refused
 abbrev pub is_unopened : JournalFault → Type 0

@@ -1,6 +1,6 @@
 //! The journal of a map that is served.
 
-ghost use Rattle.std.specs.Prelude.{◌≡◌, ◌++◌, ℕ, List, [], map, codes, IfOk, IfErr, MatchOption, OnOk};
+ghost use Rattle.std.specs.Prelude.{◌≡◌, ◌++◌, ℕ, Bool, List, [], map, codes, IfOk, IfErr, MatchOption, OnOk};
 ghost use Rattle.std.specs.Fmt.{decimal};
 ghost use Rattle.compaction.specs.Compacted.{skipping};
 ghost use Rattle.console.specs.Console.{IsReported};
@@ -8,7 +8,7 @@ ghost use Rattle.journal.specs.Fingerprint.{file_message};
 ghost use Rattle.journalfile.specs.Settled.{GarblesNoRecord};
 ghost use Rattle.subcommands.specs.Mapfiles.{TouchesNeither};
 ghost use Rattle.subcommands.specs.Session.{opened};
-ghost use Rattle.program.specs.Journals.{IsOpened, IsUnopened, ReportsCut, ReportsEnd, cut_line, failure_of, fault_end, fault_message, given_message, is_unopened, journal_fault, journal_view, log_message, map_fingerprint, number_text};
+ghost use Rattle.program.specs.Journals.{IsOpened, IsUnopened, ReportsCut, ReportsEnd, cut_line, failure_of, fault_more, fault_message, given_message, is_unopened, journal_fault, journal_view, log_message, map_fingerprint, number_text};
 
 use crate::causes::fault_of_cause;
 use crate::host::{Files, Host, OpenFault};
@@ -63,8 +63,10 @@ impl JournalFault {
     }
 
     // The number of the record, if it has one.
+    #[tactic(auto, unfolding(crate::specs::Journals::fault_more))]
     fn number(self) -> Option<u64>
-        ensures { MatchOption result (number_text self ≡ []) (λ number. number_text self ≡ decimal number) }
+        ensures { MatchOption result (number_text self ≡ [])
+            (λ number. (number_text self ≡ decimal number) × ((explains : Bool) → fault_more self explains ≡ [])) }
     {
         match self {
             JournalFault::Damaged(number) | JournalFault::Refused(number) => Some(number),
@@ -109,32 +111,27 @@ fn log_message(cause: OpenFault) -> &'static [u8]
     }
 }
 
-// The end of the line on a fault, and the line that explains it where that is requested and there is one.
-#[tactic(auto, unfolding(crate::specs::Journals::fault_end))]
-fn fault_end(explains: bool, fault: JournalFault) -> &'static [u8]
-    ensures { result.now ≡ fault_end explains fault }
+// What follows the message on a folder that is missing, where that is explained: a line of its own, without its end.
+#[tactic(auto, unfolding(crate::specs::Journals::fault_more))]
+fn fault_more(fault: JournalFault, explains: bool) -> &'static [u8]
+    ensures { result.now ≡ fault_more fault explains }
 {
-    match (explains, fault) {
-        (true, JournalFault::Log(OpenFault::NoFolder)) => {
-            b"\nerror: the folder of the journal is missing\n"
+    match (fault, explains) {
+        (JournalFault::Log(OpenFault::NoFolder), true) => {
+            b"\nerror: the folder of the journal is missing"
         }
-        _ => b"\n",
+        _ => b"",
     }
 }
 
 // Reports a fault, in parts.
-fn report_parts<'a, E: Sink>(
-    errors: &mut E,
-    path: &'a [u8],
-    message: &'a [u8],
-    rest: (&'a [u8], &'a [u8]),
-)
+fn report_parts<'a, E: Sink>(errors: &mut E, path: &'a [u8], message: &'a [u8], rest: &'a [u8])
     ensures { IsReported (⟦<E as Writes>⟧.state errors.old) (⟦<E as Writes>⟧.state errors.new)
-        (codes "fault journal " ++ (path.now ++ (codes ": " ++ (message.now ++ (rest.0.now ++ rest.1.now))))) }
+        (codes "fault journal " ++ (path.now ++ (codes ": " ++ (message.now ++ (rest.now ++ codes "\n"))))) }
 {
     report(
         errors,
-        &[b"fault journal ", path, b": ", message, rest.0, rest.1],
+        &[b"fault journal ", path, b": ", message, rest, b"\n"],
     );
 }
 
@@ -147,14 +144,18 @@ pub(crate) fn report_journal_fault<E: Sink>(
 )
     ensures { IsReported (⟦<E as Writes>⟧.state errors.old) (⟦<E as Writes>⟧.state errors.new) (journal_fault path.now explains fault) }
 {
-    let end = fault_end(explains, fault);
     match fault.number() {
         Some(number) => {
             let mut digits = Buffer::new();
             let number = digits.format(number).as_bytes();
-            report_parts(errors, path.as_bytes(), fault.message(), (number, end));
+            report_parts(errors, path.as_bytes(), fault.message(), number);
         }
-        None => report_parts(errors, path.as_bytes(), fault.message(), (b"", end)),
+        None => report_parts(
+            errors,
+            path.as_bytes(),
+            fault.message(),
+            fault_more(fault, explains),
+        ),
     }
 }
 
