@@ -83,12 +83,18 @@ fn length_of(
     }
 }
 
+// How many colours a picture of a row has, and how wide it is.
+fn colours_and_width(row: &str) -> Option<(i64, PictureSide)> {
+    let [colours, width] = numbers::<2>(row, ' ')?;
+    Some((colours, side(width)))
+}
+
 fn lengths_of(alloc: Global, row: &str) -> Result<String, AllocError> {
-    let Some([colours, width]) = numbers::<2>(row, ' ') else {
+    let Some((colours, width)) = colours_and_width(row) else {
         return format!(in alloc; "malformed");
     };
-    let opaque = length_of(alloc, false, colours, side(width))?;
-    let clear = length_of(alloc, true, colours, side(width))?;
+    let opaque = length_of(alloc, false, colours, width)?;
+    let clear = length_of(alloc, true, colours, width)?;
     format!(in alloc; "{opaque} {clear}")
 }
 
