@@ -173,7 +173,7 @@ def main():
     chosen, symbols = {at: used.index(number) for at, number in chosen.items()}, [noise(rng) for _ in used]
     with tempfile.TemporaryDirectory() as name:
         write_map(pathlib.Path(name), side, chosen, symbols, rng)
-        words = [os.path.abspath(sys.argv[1]), "serve", "--explain", "noise.map", "--port", "0", "--admin-port", "0", "--workers", str(workers)]
+        words = [os.path.abspath(sys.argv[1]), "serve", "noise.map", "--port", "0", "--admin-port", "0", "--workers", str(workers)]
         bound = lambda: resource.setrlimit(resource.RLIMIT_AS, (megabytes << 20, megabytes << 20))
         with subprocess.Popen(words, cwd=name, stdout=subprocess.PIPE, preexec_fn=bound) as process:
             try:

@@ -1,11 +1,11 @@
 #!/usr/bin/python3
 """Compares views of an office's maps with MapServer's, as deploy/convert writes them without smoothing and with it.
 
-Usage: office_views.py PROGRAM [FACTOR [VIEWS]]
+Usage: office_views.py PROGRAM [FACTOR [VIEWS [PIXELS]]]
 
 Three mapfiles are made by rule: a county, with parcels in classes, hatched parks, roads with casings, marks and numbers of the
 parcels; a web map, with countries in ranges of a value, rivers, and cities with marks and names; and a map of few keywords.
-Each is converted twice, without --smoothing and by FACTOR (4), and of each VIEWS (8) are drawn by both programs. It prints
+Each is converted twice, without --smoothing and by FACTOR (4), and of each VIEWS (8) of PIXELS (600) are drawn by both programs. It prints
 for each map what share of the pixels differs, beyond half-tones too, and by how much in the mean over all channels: the mean
 of the views, and the worst. It ends with 1 where smoothing brings a map further from MapServer's in the mean difference, and
 with 77 where a package is missing. It needs Debian's python3-mapscript, python3-pil, gdal-bin, otf2bdf and fonts-dejavu-core.
@@ -99,9 +99,9 @@ def few(folder, rng):
     return HEAD.format(name="few", extent="0 0 40 30") + layers + layer("places", "POINT", 'CLASS STYLE SYMBOL "square" SIZE 7 COLOR 30 60 150 END END')
 
 
-def compared(program, path, target, views, more):
+def compared(program, path, target, views, pixels, more):
     """Of each view the shares that differ, without and beyond half-tones, and the mean difference."""
-    words = ["/usr/bin/python3", TOP / "deploy" / "convert", path, target, "--same-scales", "--compare", str(views), "--program", program, *more]
+    words = ["/usr/bin/python3", TOP / "deploy" / "convert", path, target, "--same-scales", "--compare", str(views), "--size", str(pixels), "--program", program, *more]
     ran = subprocess.run(words, capture_output=True, text=True, errors="replace")
     found = [tuple(map(float, numbers)) for numbers in LINE.findall(ran.stdout)]
     if len(found) != views:
@@ -120,12 +120,12 @@ def missing():
 
 
 def main():
-    if not 2 <= len(sys.argv) <= 4:
+    if not 2 <= len(sys.argv) <= 5:
         sys.exit(__doc__.split("\n")[2])
     if lacking := missing():
         print(f"office_views: skipped: {', '.join(lacking)} is missing")
         sys.exit(77)
-    program, factor, views = pathlib.Path(sys.argv[1]).resolve(), sys.argv[2] if len(sys.argv) > 2 else "4", int(sys.argv[3]) if len(sys.argv) > 3 else 8
+    program, (factor, views, pixels) = pathlib.Path(sys.argv[1]).resolve(), (int(sys.argv[at]) if len(sys.argv) > at else default for at, default in ((2, 4), (3, 8), (4, 600)))
     is_worse = False
     print("| Map | Differ, % | Smoothed | Beyond half-tones, % | Smoothed | Mean difference | Smoothed |\n|---|---|---|---|---|---|---|", flush=True)
     for make in (county, web, few):
@@ -133,7 +133,7 @@ def main():
             folder = pathlib.Path(name)
             (folder / "fonts.list").write_text("sans /usr/share/fonts/truetype/dejavu/DejaVuSans.ttf\n")
             (folder / "office.map").write_text(make(folder, random.Random(5)) + "END\n")
-            before, after = (cells(compared(program, folder / "office.map", folder / f"out{len(more)}", views, more)) for more in ([], ["--smoothing", factor]))
+            before, after = (cells(compared(program, folder / "office.map", folder / f"out{len(more)}", views, pixels, more)) for more in ([], ["--smoothing", str(factor)]))
         is_worse = is_worse or float(after[2].split()[0]) > float(before[2].split()[0])
         print(f"| {make.__name__} | {' | '.join(cell for both in zip(before, after) for cell in both)} |", flush=True)
     sys.exit(1 if is_worse else 0)
