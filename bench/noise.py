@@ -5,10 +5,11 @@ Usage: noise.py PROGRAM [SIDE [WORKERS [MEGABYTES [ROUNDS]]]]
 
 Each pixel of a picture differs from its neighbours: its fine pixels are those of 64 pixmaps of noise, over small polygons that
 share their edges. Pictures of SIDE by SIDE pixels (2048), smoothed by 4, are asked for as PPM, PNG and PAM by as many clients
-as there are WORKERS (8), ROUNDS times (3), while the server has so many MEGABYTES of address space (640). An answer has to be
-503, or the picture that is worked out here: the mean of each 4 by 4 fine pixels. A client alone gets its picture before and
-after all rounds, and the server takes no more memory after the last round than after the first one but for 8 MB. SIDE is
-a multiple of 64. It prints how many answers were right, and how many 503, and ends with 1 where one is neither.
+as there are WORKERS (8), ROUNDS times (6), while the server gets so many MEGABYTES of address space (160) more than it had
+after one of each. An answer has to be 503, or the picture that is worked out here: the mean of each 4 by 4 fine pixels. A
+client alone gets its picture before that, and after that without the bound. Each worker draws each kind within four rounds:
+after the last round the server takes no more memory than after the fourth but for 8 MB. SIDE is a multiple of 64. It prints
+how many answers were right, and how many 503, and ends with 1 where one is neither.
 """
 import http.client
 import os
@@ -120,9 +121,16 @@ class Client(threading.Thread):
         self.connection.close()
 
 
-def resident(process):
+def megabytes_of(process, what):
+    """The memory of a process: VmRSS is what is resident, VmSize its address space."""
     with open(f"/proc/{process.pid}/status") as status:
-        return int(re.search(r"VmRSS:\s+(\d+)", status.read())[1]) / 1024
+        return int(re.search(rf"{what}:\s+(\d+)", status.read())[1]) / 1024
+
+
+def bound(process, megabytes):
+    """Gives a process so many megabytes of address space beyond those that it has; without a number as many as it takes."""
+    most = resource.RLIM_INFINITY if megabytes is None else int(megabytes_of(process, "VmSize") + megabytes) << 20
+    resource.prlimit(process.pid, resource.RLIMIT_AS, (most, resource.RLIM_INFINITY))
 
 
 class Trial:
@@ -145,40 +153,41 @@ class Trial:
                 self.wrong.append(f"{layers} as {form}: {client.status} {client.fault or client.body[:100]!r}")
 
 
-def tried(process, port, side, workers, rounds, expected):
-    trial, after = Trial(port, side, expected), []
+def tried(process, trial, numbers):
+    (_, workers, megabytes, rounds), after = numbers, []
     for kind in ASKED:
         trial.ask([kind], False)
+    bound(process, megabytes)
     for turn in range(rounds):
         trial.ask([ASKED[(turn + number) % len(ASKED)] for number in range(workers)], True)
-        after.append(resident(process))
+        after.append(megabytes_of(process, "VmRSS"))
+    bound(process, None)
     for kind in ASKED:
         trial.ask([kind], False)
     if process.poll() is not None:
         trial.wrong.append(f"the server ended with {process.returncode}")
-    elif after[-1] > after[0] + GROWTH:
-        trial.wrong.append(f"{after[0]:.0f} MB after the first round, {after[-1]:.0f} after the last one")
-    print(f"{trial.right} pictures were right, {trial.refused} times 503, {after[0]:.0f} and {after[-1]:.0f} MB resident after the first and the last round")
+    elif after[-1] > after[min(len(ASKED), rounds) - 1] + GROWTH:
+        trial.wrong.append(f"{after[len(ASKED) - 1]:.0f} MB after the fourth round, {after[-1]:.0f} after the last one")
+    print(f"{trial.right} pictures were right, {trial.refused} times 503, {after[-1]:.0f} MB resident after the last round")
     return trial.wrong
 
 
 def main():
     if not 2 <= len(sys.argv) <= 6:
         sys.exit(__doc__.split("\n")[2])
-    numbers = [int(sys.argv[at + 2]) if len(sys.argv) > at + 2 else default for at, default in enumerate((2048, 8, 640, 3))]
-    (side, workers, megabytes, rounds), rng = numbers, random.Random(7)
+    numbers = [int(sys.argv[at + 2]) if len(sys.argv) > at + 2 else default for at, default in enumerate((2048, 8, 160, 6))]
+    side, rng = numbers[0], random.Random(7)
     count = side // CELLS
     chosen = {(column, row): rng.randrange(SYMBOLS) for column in range(count) for row in range(count)}
     used = sorted({*chosen.values()})
     chosen, symbols = {at: used.index(number) for at, number in chosen.items()}, [noise(rng) for _ in used]
     with tempfile.TemporaryDirectory() as name:
         write_map(pathlib.Path(name), side, chosen, symbols, rng)
-        words = [os.path.abspath(sys.argv[1]), "serve", "noise.map", "--port", "0", "--admin-port", "0", "--workers", str(workers)]
-        bound = lambda: resource.setrlimit(resource.RLIMIT_AS, (megabytes << 20, megabytes << 20))
-        with subprocess.Popen(words, cwd=name, stdout=subprocess.PIPE, preexec_fn=bound) as process:
+        words = [os.path.abspath(sys.argv[1]), "serve", "noise.map", "--port", "0", "--admin-port", "0", "--workers", str(numbers[1])]
+        with subprocess.Popen(words, cwd=name, stdout=subprocess.PIPE) as process:
             try:
                 found = ports_of(process.stdout.readline())
-                wrong = tried(process, found[0], side, workers, rounds, Expected(chosen, symbols, side)) if found else ["the server doesn't listen"]
+                wrong = tried(process, Trial(found[0], side, Expected(chosen, symbols, side)), numbers) if found else ["the server doesn't listen"]
             finally:
                 process.kill()
     for line in wrong:

@@ -2,7 +2,10 @@ use crate::marks::{Call, begin, end, play_on};
 use crate::reading::plain_machine;
 use compaction::LastChanges;
 use journal::{JournalName, push_header, push_record};
-use journalfile::{Journal, Log, NotCompacted, PutFault, RecoverFault, Recovered, ReplaceFault, Replaceable, recover};
+use journalfile::{
+    Journal, Log, NotCompacted, PutFault, RecoverFault, Recovered, ReplaceFault, Replaceable,
+    recover,
+};
 use keepers::LogCause;
 use std::alloc::{AllocError, Global};
 use std::io::{self, Read};
