@@ -42,7 +42,7 @@ TRIED = [
     (["OFF rivers"], None, 1, "", "batch: command 1, OFF rivers: no layer has the name" + NOTHING),
     (["off roads"], None, 1, "", "batch: command 1, off roads: an unknown word, or a command that can't be read" + NOTHING),
     (["ON roads", "CLEAR roads"], None, 1, "", "batch: command 2, CLEAR roads: the layer isn't one of points" + NOTHING),
-    (["APPEND bad.csv cities"], None, 1, "", "APPEND bad.csv cities: row 3: a coordinate that can't be read, or beyond 1,000 degrees" + NOTHING),
+    (["APPEND bad.csv cities"], None, 1, "", "APPEND bad.csv cities: row 3: a coordinate that can't be read, or beyond 1,000 degrees: y is \"abc\"" + NOTHING),
     (["APPEND named.csv cities"], None, 1, "", "row 1: no column of the coordinates: x and y are looked for in long,lat" + NOTHING),
     (["APPEND good.csv two words"], None, 1, "", "does the layer read others, by CSV_X and CSV_Y? Name them by --columns" + NOTHING),
     (["--columns", "long,lat", "APPEND good.csv two words"], None, 1, "", "row 1: no column of the coordinates: long and lat are looked for in x,y,name" + NOTHING),
