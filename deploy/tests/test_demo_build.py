@@ -130,6 +130,13 @@ mkdir -p crates/mapservd/out; echo built > crates/mapservd/out/mapservd""")
         with open(build.BUILT, encoding="utf-8") as file:
             self.assertEqual(file.read(), "built\n")
 
+    def test_a_program_that_runs_stays_as_it_is(self):
+        self.write("crates/mapservd/out/mapservd", "old")
+        with open(build.BUILT, encoding="utf-8") as running:
+            self.prove("mkdir -p crates/mapservd/out; echo built > crates/mapservd/out/mapservd")
+            self.assertEqual(running.read(), "old")
+        self.assertEqual(os.listdir(os.path.dirname(build.BUILT)), ["mapservd"])
+
     def test_what_rt_wrote_is_kept_where_it_fails(self):
         said, failed = self.prove("echo refused; exit 1")
         self.assertEqual(said, [])

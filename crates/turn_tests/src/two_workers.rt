@@ -103,12 +103,12 @@ fn clients_with_a_place<R: AllocGlobal + Clock + Wait + Threads + Send + Copy + 
     Ok(count)
 }
 
-// 1,024 wait, and up to 128 have slots, and some more where these give way after a second. With 1,024 for each worker it would be 2,048.
+// 1,024 wait, up to 128 have slots, and some more where these give way after a second. With 1,024 for each worker it would be 2,047 at least.
 #[test]
 fn those_that_wait_for_both_workers_are_counted(rt: HostRuntime) -> Result<(), Fail> {
     let count = clients_with_a_place(&rt, &rt)?;
     assert!(rt; count >= 1_024);
-    assert!(rt; count < 2_048);
+    assert!(rt; count < 2_000);
     Ok(())
 }
 
