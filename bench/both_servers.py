@@ -19,6 +19,8 @@ import sys
 import tempfile
 import time
 
+sys.path.insert(0, str(pathlib.Path(__file__).resolve().parents[1] / "tests" / "lib"))
+
 from painting import read_places
 from painting_counts import scattered_lines, scattered_points
 from served import ports_of

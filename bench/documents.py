@@ -3,8 +3,8 @@
 
 Usage: documents.py [--write]
 
-Read are README.md, CHANGELOG.md, what lies in docs/, the README.md of bench/, crates/, demo/ and deploy/, and of
-bench/results/, which says what was, the links. Looked for are
+Read are README.md, CHANGELOG.md, what lies in docs/, the README.md of bench/, crates/, demo/, deploy/ and tests/,
+and of bench/results/, which says what was, the links. Looked for are
 
 - links: the file, and the heading in it;
 - paths that begin with a folder of the repository or with a crate, also without .antt or .rt at the end, and files in
@@ -29,7 +29,7 @@ import planted
 import rules
 
 TOP = pathlib.Path(__file__).resolve().parent.parent
-FOLDERS = ("bench", "demo", "deploy")
+FOLDERS = ("bench", "demo", "deploy", "tests")
 CRATES_PAGE = TOP / "crates" / "README.md"
 NAME = re.compile(r"[A-Za-z_]\w*(::\w+)*")
 # backquoted names with commas between them, alone and each perhaps with a remark in brackets
@@ -207,7 +207,7 @@ def found_paths(document, line):
             yield f"the path {path}", is_path(path)
     if document.parent.name in FOLDERS and line.startswith("| `"):
         for word in re.findall(r"`(\w[\w@-]*\.\w+)[ `]", line.split(" | ")[0]):
-            yield f"the file {word}", (document.parent / word).exists()
+            yield f"the file {word}", any(document.parent.rglob(word))
 
 
 def found_edits(document, line):

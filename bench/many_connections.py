@@ -21,6 +21,7 @@ Needs wrk (Debian has it) and 1,600 descriptors. The server has 4 workers.
 import contextlib
 import multiprocessing
 import os
+import pathlib
 import re
 import resource
 import selectors
@@ -30,6 +31,8 @@ import subprocess
 import sys
 import tempfile
 import time
+
+sys.path.insert(0, str(pathlib.Path(__file__).resolve().parents[1] / "tests" / "lib"))
 
 from served import ports_of
 

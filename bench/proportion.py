@@ -20,6 +20,8 @@ import tempfile
 import threading
 import time
 
+sys.path.insert(0, str(pathlib.Path(__file__).resolve().parents[1] / "tests" / "lib"))
+
 from served import come_and_go, ports_of, read_all
 from table import Bench
 

@@ -17,6 +17,8 @@ import sys
 import tempfile
 import time
 
+sys.path.insert(0, str(pathlib.Path(__file__).resolve().parents[1] / "tests" / "lib"))
+
 from served import ports_of
 
 TOP = pathlib.Path(__file__).resolve().parent.parent

@@ -10,11 +10,14 @@ moment and that at most, which for both is while the mapfile is read. Everything
 folder of its own. It ends with 1 where a batch isn't published, or a picture isn't answered.
 """
 import os
+import pathlib
 import re
 import socket
 import subprocess
 import sys
 import tempfile
+
+sys.path.insert(0, str(pathlib.Path(__file__).resolve().parents[1] / "tests" / "lib"))
 
 from served import ports_of, read_all
 

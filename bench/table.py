@@ -14,6 +14,7 @@ machine does shows in the least and the greatest, and not in one workload's medi
 import csv
 import json
 import os
+import pathlib
 import platform
 import re
 import statistics
@@ -21,6 +22,8 @@ import subprocess
 import sys
 import tempfile
 import time
+
+sys.path.insert(0, str(pathlib.Path(__file__).resolve().parents[1] / "tests" / "lib"))
 
 import labelling
 from labelling import Label

@@ -9,11 +9,14 @@ nothing of it until all are written. For 1, 4, 8, 16 and 32 workers it prints th
 and what that is for each worker. It ends with 1 where a picture isn't answered.
 """
 import os
+import pathlib
 import re
 import socket
 import subprocess
 import sys
 import time
+
+sys.path.insert(0, str(pathlib.Path(__file__).resolve().parents[1] / "tests" / "lib"))
 
 from served import ports_of
 

@@ -26,6 +26,8 @@ import tempfile
 import threading
 import time
 
+sys.path.insert(0, str(pathlib.Path(__file__).resolve().parents[1] / "tests" / "lib"))
+
 from served import ports_of
 
 DEMO = pathlib.Path(__file__).resolve().parent.parent / "demo"

@@ -1,7 +1,7 @@
 """MapServer's keywords of each block of a mapfile, and what mapservd makes of them.
 
 `lint` looks words up here, and docs/MAPSERVER.md is written from it by `deploy/keywords`. The rules themselves stand in
-docs/MAPFILE.md, and the server follows those alone: bench/lint_agrees.py compares what lint and the server say.
+docs/MAPFILE.md, and the server follows those alone: tests/gate/lint_agrees.py compares what lint and the server say.
 """
 
 # Keywords that count, by their block, with the number of their values; 0 for a block.

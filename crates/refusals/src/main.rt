@@ -3,7 +3,7 @@
 //! change is printed.
 //!
 //! The lines `>` and `<` are before and after each call, so that a library which refuses memory knows when to:
-//! `bench/refusals.py` has one.
+//! `tests/gate/refusals.py` has one.
 #![tactic(auto)]
 
 mod changing;

@@ -1,0 +1,236 @@
+#!/usr/bin/env python3
+"""Tries that deploy/lint and the program agree on mapfiles. Usage: lint_agrees.py PROGRAM [MAPFILE ..]
+
+lint has to find no difference exactly where `check` finds no fault but those of files, and where `check` finds one, a
+difference on its line. Tried are the mapfiles of demo/ and of the cases, those of the table below, which has each
+block in which others begin or don't, thousands that are made of these by dropping, doubling and replacing words, those
+of Debian's python3-mapscript and mapserver-doc where they are installed, and those that are given. It ends with 1 where
+the two disagree.
+
+Gate: PROGRAM; 20 s
+"""
+import glob
+import importlib.machinery
+import importlib.util
+import os
+import re
+import subprocess
+import sys
+import tempfile
+
+TOP = os.path.dirname(os.path.dirname(os.path.dirname(os.path.realpath(__file__))))
+OURS = ["demo/*.map", "crates/replay/data/*/map"]
+DEBIAN = ["/usr/lib/python3/dist-packages/mapscript/tests/data/*.map", "/usr/share/doc/mapserver-doc/symbols/*.map"]
+
+LAYER = "LAYER NAME l TYPE POINT {}\nEND"
+CLASS = "LAYER NAME l TYPE POINT CLASS {}\nEND END"
+
+# What stands in a MAP of its own each.
+TABLE = [
+    "QUERYMAP STATUS ON STYLE HILITE END\n{}",
+    "LEGEND LABEL STYLE COLOR 1 2 3 END END STYLE END\n{}",
+    "LEGEND LABEL METADATA a b END VALIDATION c d END END END\n{}",
+    "SCALEBAR STYLE 0 LABEL SIZE TINY END END\n{}",
+    "REFERENCE POINTS 1 2 END\n{}",
+    "OUTPUTFORMAT PATTERN END\n{}",
+    "PROJECTION METADATA END\n{}",
+    "WEB VALIDATION a b END METADATA 'wms_title' 't' END END\n{}",
+    "WEB VALIDATION a END END\n{}",
+    "CONFIG LABELFONT f.bdf CONFIG x y\n{}",
+    "CONFIG WMS_FORMATS ' image/png  image/x-portable-pixmap' CONFIG WMS_CRS EPSG:3857 CONFIG WMS_CRS ''\n{}",
+    "CONFIG WMS_FORMATS\nimage/gif CONFIG WMS_FORMATS image/png\n{}", "CONFIG WMS_CRS 'EPSG:3857\tEPSG:3857'\n{}", "CONFIG WMS_CRS epsg:3857\n{}",
+    "CONFIG WMS_SMOOTHING 1 CONFIG 'WMS_SMOOTHING' '4' CONFIG wms_smoothing 9\n{}", "CONFIG WMS_SMOOTHING\n5 CONFIG WMS_SMOOTHING 2\n{}", "CONFIG WMS_SMOOTHING 2.0\n{}", "CONFIG WMS_SMOOTHING ''\n{}",
+    "SIZE x y SIZE 'END' 1\n{}",
+    "IMAGECOLOR 1 2\n{}", "IMAGECOLOR '#0a141e'\n{}", "IMAGECOLOR '#0a141'\n{}",
+    "EXTENT 1 0 1\n1\n{}", "EXTENT 0 0\n0 1\n{}", "EXTENT 0 0 1000.0000004 1\n{}", "EXTENT 0 0 1000.0000005 1\n{}",
+    "SYMBOL NAME s TYPE PIXMAP IMAGE s.ppm TRANSPARENT 1 ANCHORPOINT 0 1 END\n{}",
+    "SYMBOL NAME s TYPE ELLIPSE POINTS 1 1 END FILLED TRUE END\n{}", "SYMBOL NAME s TYPE PIXMAP\nEND\n{}",
+    "SYMBOLSET 'a.sym'\n{}", "INCLUDE 'a.map'\n{}", "\ufeff\n{}", "NAME (a)\n{}", "NAME {{a}}\n{}", "NAME a)\n{}", "NAME 'a\\'\n{}",
+]
+IN_LAYER = [
+    "CLASS METADATA a b END STYLE COLOR 10 20 30 END END", "CLASS VALIDATION a b END END", "VALIDATION a b END",
+    "CLASS LABEL STYLE COLOR 1 2 3 END END END", "CLASS LABEL LABEL END END END", "CLASS LABEL END LABEL END END",
+    "FEATURE POINTS 1 2 END END", "FEATURE POINTS 1 2 3\nEND END", "FEATURE POINTS\nEND END", "FEATURE\nEND",
+    "FEATURE POINTS 1 x END END", "FEATURE POINTS 1 1000.0000005 END END", "FEATURE WKT 'POINT(1 2)' END",
+    "GRID LABELFORMAT DD END", "COMPOSITE OPACITY 50 END", "CLUSTER MAXDISTANCE 20 END", "JOIN TABLE t END",
+    "SCALETOKEN VALUES '0' 'a' END END", "CLASS LEADER GRIDSTEP 5 STYLE COLOR 1 2 3 PATTERN 2 2 END END END END",
+    "DATA a.csv", "DATA 'a.shp'", "DATA A.CSV", "DATA a.csv TYPE LINE", "CONNECTIONTYPE OGR CONNECTION 'x'",
+    "FILTER ('[a]' = 'b')", "STYLEITEM 'AUTO'", "LABELCACHE ON", "LABELCACHE OFF", "TOLERANCEUNITS pixels",
+    "TOLERANCEUNITS METERS", "TOLERANCE 64.4", "TOLERANCE 64.5", "TOLERANCE -0.4", "MINSCALEDENOM 1e12", "MAXSCALEDENOM 1e13",
+    "MINSCALEDENOM 1e99999999999999999999", "PROCESSING ITEMS=" + ",".join("a" * 64), "PROCESSING ITEMS=" + ",".join("a" * 65),
+    "METADATA a b wms_title\nEND", "METADATA a (b) END", "METADATA\n(a) b END", "TYPE RASTER", "TYPE circle", "NAME 'l' TYPE point",
+    "STATUS\nEND", "TEMPLATE 'END'", "PROJECTION 'init=epsg:4326' END", "EXTENT a b c d", "EXTENT a b c", "TYPE 'END'",
+]
+EXPRESSIONS = [
+    "x", "'x'", "{a,b}", "{a", "/a/", "/.+/", "'/a/'", "([a]=1)", "([a]=1 ANDNOT[b]=2)", "([a]eq1 AND[b]=2)", "(1.2.3=1)",
+    "([pop] >)", "([a] ~ 'b')", "([a] ~* 'b')", "([a]+1=2)", "(length('[a]')=2)", "([a] IN 'a,b')", "([a] =* 'x')",
+    "(NOT [a]=1 AND [b]=2 OR [c]=3)", "(! [a]=1)", "(!![a]!=1)", "([a]=1 && [b]=2 || [c]=3)", "([a]=1 [b]=2)", "()", "([]=1)",
+    "(1e12=1)", "(1e13=1)", "('[a]' = \"b\")", "([a] < 1)", "([a] <= .5e-3)", "([a] => 1)", "([a]=1)(b)", "(([a]=1))", "((a)=1)",
+    "(" * 64 + "1=1" + ")" * 64, "(" * 65 + "1=1" + ")" * 65, "(" + "NOT " * 63 + "1=1)", "(" + "NOT " * 64 + "1=1)",
+    "([a]=1\f)", "([a]=1\n\t)", "('a' ge 'b' and 'c' LT 'd')", "([a] = -1)", "([a] = - 1)", "([a)", "([a]='b)",
+]
+STYLES = [
+    "COLOR 10 20 30", "COLOR 256 0 0", "COLOR -1 0 0", "COLOR -1.4 255.4 0", "COLOR 0 0 255.5", "COLOR '#0A141e'", "COLOR '#0A141'",
+    "COLOR '#0A141eff'", "COLOR [c]", "COLOR 1 2", "COLOR '1' '2' '3'", "WIDTH 32.4", "WIDTH 32.5", "WIDTH 0.5", "WIDTH 0.4", "SIZE 256",
+    "SIZE 0", "SIZE [s]", "SYMBOL 0", "SYMBOL '0'", "SYMBOL 1", "SYMBOL s", "OPACITY 50", "PATTERN 2 2 END", "ANGLE 45",
+    "GEOMTRANSFORM (buffer([shape],2))", "OFFSET 1 1", "STYLE END", "MINSIZE x", "COLOUR 1 2 3", "OUTLINEWIDTH 2",
+]
+LABELS = [
+    "COLOR 10 20 30 OUTLINECOLOR '#ffffff'", "POSITION ul", "POSITION FOLLOW", "PRIORITY 10", "PRIORITY 11", "PRIORITY [p]", "FORCE TRUE",
+    "FORCE ON", "PARTIALS false", "MINDISTANCE -1", "MINDISTANCE 4097", "BUFFER -1", "OFFSET 1 2", "SIZE LARGE TYPE TRUETYPE FONT x",
+    "ANGLE AUTO", "EXPRESSION (1=1)", "TEXT '[a]'", "STYLE GEOMTRANSFORM labelpoly COLOR 1 2 3 END", "STYLE STYLE END END", "WRAP ' '",
+    "STYLE METADATA END END", "STYLE LABEL STYLE END END END", "ALIGN CENTER", "MAXLENGTH 10",
+]
+
+
+# What lint differs on once in a LAYER: it goes on behind the END of the block that it doesn't know.
+ONCE = [
+    "CLASS METADATA a b END STYLE COLOR 10 20 30 END END TEMPLATE t", "CLASS VALIDATION a b END END", "COMPOSITE OPACITY 50 END",
+    "CLASS LEADER STYLE PATTERN 2 2 END END END STYLE COLOR 10 20 30 END END", "CLASS STYLE PATTERN 2 2 END END END",
+    "SCALETOKEN VALUES '0' 'a' END END", "CLUSTER MAXDISTANCE 20 END", "GRID LABELFORMAT DD END",
+]
+
+
+# What metadata keeps from MapServer's clients and nobody here: no fault of `check`, and so often a difference to lint alone.
+KEPT_BACK = [
+    ("METADATA wms_exclude_items a END", 1), ("METADATA gml_include_items 'a,b' ows_exclude_items c END", 2), ("METADATA ows_include_items all END", 0),
+    ("METADATA ows_enable_request '!*' END", 1), ("METADATA wms_enable_request '* !GetFeatureInfo' END", 1), ("METADATA ows_enable_request '*' END", 0),
+    ("METADATA ows_allowed_ip_list '10.0.0.1' END", 1), ("METADATA wms_title t END", 0),
+]
+
+
+def whole(parts):
+    return "MAP\n" + parts + "\nEND\n"
+
+
+def tables():
+    for text in TABLE:
+        yield whole(text.format(LAYER.format("")))
+    for text in IN_LAYER:
+        yield whole(LAYER.replace("{}", text))
+    for text in EXPRESSIONS:
+        yield whole(CLASS.replace("{}", "EXPRESSION " + text))
+    for text in STYLES:
+        yield whole(CLASS.replace("{}", "STYLE\n" + text + "\nEND"))
+    for text in LABELS:
+        yield whole(CLASS.replace("{}", "LABEL\n" + text + "\nEND"))
+    yield ""
+    yield "MAP"
+    yield "map end"
+    yield "MAP END END"
+    yield "# a\nMAP END"
+    yield "/* a */ MAP END"
+    yield whole(LAYER.format("") + LAYER.format(""))
+    yield whole("NAME 'a\x01b'")
+    yield "# \x01\xe4\nMAP END"
+
+
+WORD = re.compile(r"\"[^\"]*\"|'[^']*'|\{[^}]*\}|[^\s\"'#(){}]+")
+INSTEAD = ["END", "x", "1", "'a b'", "STYLE", "LABEL END", "METADATA a b END", "QUERYMAP STYLE END", "-1", "{a}", "(1=1)", "POINTS"]
+
+
+def spoiled(source):
+    """What comes of a mapfile by dropping, doubling and replacing some of its words."""
+    places = list(WORD.finditer(source))
+    step = max(1, len(places) // 40)
+    for number, place in enumerate(places[::step]):
+        before, behind = source[: place.start()], source[place.end() :]
+        yield before + behind
+        yield before + place[0] + " " + place[0] + behind
+        for other in (INSTEAD[number % len(INSTEAD)], INSTEAD[(number * 5 + 1) % len(INSTEAD)]):
+            yield before + other + behind
+            yield before + place[0] + "\n" + other + behind
+
+
+def fault_of(program, path):
+    """The line of the fault that `check` finds, but those of files, or nothing; and what it writes of it."""
+    checked = subprocess.run([program, "check", "--explain", path], capture_output=True, text=True, errors="replace")
+    found = re.match(r"fault line (\d+) kind (\d+)\n", checked.stderr)
+    if checked.returncode not in (0, 1) or (found is None) != (checked.returncode == 0):
+        raise SystemExit(f"lint_agrees: {program} ended with {checked.returncode}: {checked.stderr}")
+    return (int(found[1]) if found and found[2] not in ("7", "10") else None), checked.stderr
+
+
+def differences_of(lint, path):
+    """What lint differs on, with its lines."""
+    with open(path, encoding="utf-8", errors="surrogateescape", newline="") as file:
+        linter = lint.Linter(path, file.read())
+    linter.read_all()
+    return [(line, words) for line, is_difference, words in linter.found if is_difference]
+
+
+def agrees(program, lint, path, name):
+    line, words = fault_of(program, path)
+    found = differences_of(lint, path)
+    if not found if line is None else line in [where for where, _ in found]:
+        return True
+    print(f"{name}: check says line {line}: {words}  lint says {found}")
+    return False
+
+
+def looks_into_includes(lint):
+    """Whether lint finds what stands in an included file, by the lines of that file, and in one that this includes."""
+    with tempfile.TemporaryDirectory() as folder:
+        for name, text in (("a.map", whole("INCLUDE 'b.part'")), ("b.part", "LAYER NAME l TYPE POINT\nINCLUDE 'c.part'\nOPACITY 5\nEND\n"), ("c.part", "\nMASK 'm'\n")):
+            with open(os.path.join(folder, name), "w", encoding="utf-8") as file:
+                file.write(text)
+        linter = lint.Linter(os.path.join(folder, "a.map"), whole("INCLUDE 'b.part'"))
+        linter.read_all()
+        inner = linter.included[0] if linter.included else None
+        innermost = inner.included[0] if inner and inner.included else None
+        found = [[line for line, is_difference, _ in one.found if is_difference] if one else None for one in (linter, inner, innermost)]
+    if found != [[2], [2, 3], [2]]:
+        print(f"lint finds {found} in a mapfile and what it includes")
+    return found == [[2], [2, 3], [2]]
+
+
+def load_lint():
+    path = os.path.join(TOP, "deploy", "lint")
+    loader = importlib.machinery.SourceFileLoader("lint", path)
+    lint = importlib.util.module_from_spec(importlib.util.spec_from_loader("lint", loader))
+    sys.dont_write_bytecode = True
+    loader.exec_module(lint)
+    return lint
+
+
+def main():
+    if len(sys.argv) < 2:
+        sys.exit(__doc__.split("\n")[0])
+    program, lint = os.path.abspath(sys.argv[1]), load_lint()
+    ours = [path for pattern in OURS for path in sorted(glob.glob(os.path.join(TOP, pattern)))]
+    others = [path for pattern in DEBIAN for path in sorted(glob.glob(pattern))] + sys.argv[2:]
+    count = wrong = 0
+    for path in ours + others:
+        count, wrong = count + 1, wrong + (not agrees(program, lint, path, path))
+    for text in ONCE:
+        linter = lint.Linter("once", whole(LAYER.replace("{}", text)))
+        linter.read_all()
+        count, wrong = count + 1, wrong + (linter.differences != 1)
+        if linter.differences != 1:
+            print(f"{text}: lint differs {linter.differences} times in place of once: {linter.found}")
+    for text, wanted in KEPT_BACK:
+        linter = lint.Linter("kept back", whole(LAYER.replace("{}", text)))
+        linter.read_all()
+        is_right = (linter.differences, len(linter.kept_back)) == (0, wanted)
+        count, wrong = count + 1, wrong + (not is_right)
+        if not is_right:
+            print(f"{text}: lint finds {linter.kept_back} and {linter.found}")
+    count, wrong = count + 1, wrong + (not looks_into_includes(lint))
+    small = [open(path, encoding="utf-8", errors="surrogateescape").read() for path in ours + others if os.path.getsize(path) < 20_000]
+    with tempfile.TemporaryDirectory() as folder:
+        made = list(tables()) + [text for source in small for text in spoiled(source)]
+        for number, text in enumerate(made):
+            path = os.path.join(folder, f"{number}.map")
+            with open(path, "w", encoding="utf-8", errors="surrogateescape", newline="") as file:
+                file.write(text)
+            is_right = agrees(program, lint, path, f"made {number}")
+            count, wrong = count + 1, wrong + (not is_right)
+            if not is_right and len(text) < 400:
+                print(text)
+            os.remove(path)
+    print(f"lint_agrees: {count} mapfiles, {wrong} on which lint and check disagree")
+    sys.exit(1 if wrong else 0)
+
+
+if __name__ == "__main__":
+    main()

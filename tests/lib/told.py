@@ -1,0 +1,109 @@
+"""A mapfile in which each of MapServer's keywords may stand once, and how each is written. Used by conversions.py."""
+import pathlib
+
+MAPS = pathlib.Path(__file__).resolve().parents[1] / "converted"
+
+# A mapfile in which each block is there once in a layer of each kind; one more line is laid into one of its blocks.
+BASE = """MAP
+NAME "base" EXTENT 0 0 10 10 SIZE 100 100 PROJECTION "init=epsg:4326" END
+FONTSET "{maps}/fontset.list"
+@MAP
+WEB
+@WEB
+METADATA "ows_enable_request" "*" END END
+SYMBOL NAME "mark" TYPE VECTOR POINTS 0 0 1 2 2 0 0 0 END FILLED TRUE
+@SYMBOL
+END
+LAYER NAME "mask" TYPE POLYGON FEATURE POINTS 0 0 0 4 4 4 4 0 0 0 END END CLASS STYLE COLOR 1 2 3 END END END
+{layers}
+END
+"""
+LAYER = """LAYER NAME "{kind}" TYPE {kind} STATUS ON
+PROCESSING "ITEMS=a,b"
+METADATA "wms_include_items" "a" END
+TEMPLATE "x"
+LABELITEM "b"
+CLASSITEM "a"
+@LAYER
+FEATURE
+POINTS {points} END ITEMS "1;one"
+@FEATURE
+END
+FEATURE POINTS {other} END ITEMS "2;two" END
+CLASS
+NAME "first" GROUP "g"
+@CLASS
+STYLE
+COLOR 10 20 30 OUTLINECOLOR 40 50 60 WIDTH 3 {style}
+@STYLE
+END
+LABEL
+COLOR 70 80 90 SIZE 9 TYPE TRUETYPE FONT "sans"
+@LABEL
+END
+END
+END
+"""
+SHAPES = {
+    "POINT": ("2 2", "7 7", 'SYMBOL "mark" SIZE 9'),
+    "LINE": ("1 1 2 3", "6 6 7 8", ""),
+    "POLYGON": ("1 1 1 2 2 2 2 1 1 1", "6 6 6 7 7 7 7 6 6 6", ""),
+}
+
+# How each keyword is written; those that aren't here have the value 5.
+WRITTEN = {
+    "MAP": 'CONFIG "A" "b"; EXTENT 0 0 9 9; FONTSET "{maps}/fontset.list"; IMAGECOLOR 250 240 230; IMAGETYPE PNG; LAYER NAME "m" TYPE POINT FEATURE '
+    'POINTS 1 1 END END CLASS END END; LEGEND STATUS ON END; MAXSIZE 4096; NAME "other"; OUTPUTFORMAT NAME "f" DRIVER "AGG/PNG" END; '
+    'PROJECTION "init=epsg:4326" END; QUERYMAP STATUS ON END; REFERENCE STATUS OFF IMAGE "x.png" SIZE 5 5 EXTENT 0 0 1 1 END; RESOLUTION 96; '
+    'SCALEBAR STATUS ON END; SHAPEPATH "x"; SIZE 50 50; STATUS ON; SYMBOL NAME "mark2" TYPE ELLIPSE POINTS 1 1 END END; '
+    'SYMBOLSET "{maps}/symbolset.sym"; UNITS DD; WEB METADATA "wms_title" "w" END END; DATAPATTERN "x"; DEFRESOLUTION 96; IMAGEQUALITY 50; INTERLACE ON; '
+    'TEMPLATEPATTERN "x"; TRANSPARENT ON; ANGLE 20; DEBUG 1',
+    "WEB": 'METADATA "wms_title" "w" END; VALIDATION "a" "b" END; BROWSEFORMAT "text/html"; EMPTY "x"; ERROR "x"; FOOTER "x"; HEADER "x"; IMAGEPATH "x"; '
+    'IMAGEURL "x"; LEGENDFORMAT "text/html"; LOG "x"; QUERYFORMAT "text/html"; TEMPLATE "x"; TEMPPATH "x"; MAXTEMPLATE "x"; MINTEMPLATE "x"',
+    "SYMBOL": 'NAME "mark"; TYPE ELLIPSE; IMAGE "{maps}/../../demo/names.png" TYPE PIXMAP; TRANSPARENT 0; ANCHORPOINT 0 0; FILLED FALSE; '
+    'POINTS 0 0 2 2 2 0 0 0 END; FONT "sans" CHARACTER "A" TYPE TRUETYPE; CHARACTER "A" FONT "sans" TYPE TRUETYPE; ANTIALIAS TRUE',
+    "LAYER": 'NAME "n"; TYPE POINT; CLASSITEM "b"; LABELITEM "a"; DATA "{maps}/auto.geojson"; TEMPLATE "y"; PROCESSING "BANDS=1"; METADATA "wms_title" "t" END; '
+    'CLASS END; FEATURE POINTS 3 3 END ITEMS "3;three" END; DEBUG 1; DUMP TRUE; FOOTER "x"; GROUP "g"; HEADER "x"; STATUS DEFAULT; UNITS DD; LABELCACHE OFF; '
+    'TOLERANCEUNITS METERS; EXTENT 0 0 1 1; PROJECTION "init=epsg:3857" END; VALIDATION "a" "b" END; BINDVALS "1" "x" END; CLASSGROUP "other"; '
+    'CLUSTER MAXDISTANCE 20 REGION "ellipse" END; COMPOSITE OPACITY 50 END; CONNECTION "x" CONNECTIONTYPE OGR; CONNECTIONTYPE OGR CONNECTION "x"; '
+    'CONNECTIONOPTIONS "a" "b" END CONNECTIONTYPE OGR CONNECTION "x"; ENCODING "ISO-8859-1"; FILTER ("[a]" = "1"); FILTERITEM "a" FILTER "1"; '
+    'GEOMTRANSFORM (buffer([shape],1)); GRID LABELFORMAT "DD" END; IDENTIFY TOLERANCE 5 END; JOIN NAME "j" TABLE "x" FROM "a" TO "b" TYPE ONE-TO-ONE END; '
+    'LABELREQUIRES "[mask]"; MASK "mask"; MAXFEATURES 1; OFFSITE 1 2 3; OPACITY 50; PLUGIN "x" CONNECTIONTYPE PLUGIN; POSTLABELCACHE TRUE; REQUIRES "[mask]"; '
+    'SCALETOKEN NAME "%a%" VALUES "0" "b" END END; SIZEUNITS METERS; STYLEITEM "AUTO"; TILEINDEX "x"; TILEITEM "x"; TILESRS "x"; TRANSFORM FALSE; '
+    'UTFDATA "x"; UTFITEM "a"; MINSCALEDENOM 100; MAXSCALEDENOM 100000; LABELMINSCALEDENOM 100; LABELMAXSCALEDENOM 100000; MAXGEOWIDTH 5; MINGEOWIDTH 1; '
+    'SYMBOLSCALEDENOM 10000; TOLERANCE 7',
+    "CLASS": 'EXPRESSION "1"; STYLE COLOR 3 4 5 END; LABEL COLOR 1 2 3 END; NAME "n"; TITLE "t"; STATUS OFF; TEMPLATE "x"; DEBUG 1; FALLBACK TRUE; GROUP "h"; '
+    'KEYIMAGE "x"; LEADER GRIDSTEP 5 MAXDISTANCE 30 STYLE COLOR 1 2 3 END END; METADATA "a" "b" END; TEXT "[a] x"; VALIDATION "a" "b" END; '
+    'BACKGROUNDCOLOR 1 2 3; COLOR 1 2 3; OUTLINECOLOR 1 2 3; SYMBOL "mark"; MINSCALEDENOM 100; MAXSCALEDENOM 100000',
+    "STYLE": 'COLOR 9 8 7; OUTLINECOLOR 9 8 7; SYMBOL "mark"; ANTIALIAS TRUE; ANGLE 45; ANGLEITEM "a"; BACKGROUNDCOLOR 1 2 3; COLORRANGE 0 0 0 200 200 200 DATARANGE 0 8 '
+    'RANGEITEM "a"; DATARANGE 0 8 COLORRANGE 0 0 0 200 200 200 RANGEITEM "a"; RANGEITEM "a" DATARANGE 0 8 COLORRANGE 0 0 0 200 200 200; GAP 20 SYMBOL "mark"; '
+    'INITIALGAP 5; GEOMTRANSFORM "end"; LINECAP ROUND; LINEJOIN ROUND; OFFSET 3 3; OPACITY 50; PATTERN 3 3 END; POLAROFFSET 5 45; MINSCALEDENOM 100; SIZEITEM "a"; '
+    'MAXSCALEDENOM 100000; WIDTH 7',
+    "LABEL": 'COLOR 9 8 7; OUTLINECOLOR 9 8 7; POSITION UC; PARTIALS TRUE; FORCE TRUE; ANTIALIAS TRUE; ENCODING "UTF-8"; FONT "mono"; TYPE TRUETYPE; OFFSET 3 3; '
+    'STYLE COLOR 1 2 3 END; ALIGN CENTER; ANGLE 45; BACKGROUNDCOLOR 1 2 3; BACKGROUNDSHADOWCOLOR 1 2 3; BACKGROUNDSHADOWSIZE 1 1; EXPRESSION ("[a]" = "1"); '
+    'MINSCALEDENOM 100; MAXSCALEDENOM 100000; POLAROFFSET 5 45; SHADOWCOLOR 1 2 3; SHADOWSIZE 2 2; TEXT "x [a]"; WRAP " "; SIZE 12',
+    "FEATURE": 'ITEMS "1;else"; POINTS 3 3 4 4 END; TEXT "text"; WKT "POINT(3 3)"',
+}
+# What is read by MapServer itself, and changes nothing of a layer that has its features in the mapfile.
+ALIKE = {
+    "MAP CONFIG", "MAP FONTSET", "MAP PROJECTION", "MAP SHAPEPATH", "MAP SYMBOLSET", "MAP SYMBOL", "WEB VALIDATION", "SYMBOL NAME", "SYMBOL TRANSPARENT",
+    "SYMBOL ANTIALIAS", "SYMBOL IMAGE", "LAYER CONNECTIONOPTIONS", "LAYER TILEITEM", "LAYER TILESRS", "LAYER TEMPLATE", "LAYER BINDVALS",
+    "LAYER ENCODING", "LAYER CONNECTION", "LAYER CONNECTIONTYPE", "LAYER DATA", "LAYER PLUGIN", "LAYER TILEINDEX", "CLASS TEMPLATE", "LABEL TYPE",
+}
+
+
+def written(block, word):
+    """How a keyword is written."""
+    for text in WRITTEN.get(block, "").split("; "):
+        if text.split(" ")[0] == word:
+            return text.replace("{maps}", str(MAPS))
+    return f"{word} 5"
+
+
+def mapfile(block="", word="", kinds=("POINT",)):
+    """The base with a keyword, and the number of its line."""
+    layers = "".join(LAYER.format(kind=kind, points=SHAPES[kind][0], other=SHAPES[kind][1], style=SHAPES[kind][2]) for kind in kinds)
+    text = BASE.format(layers=layers, maps=MAPS)
+    lines = [line if not line.startswith("@") else written(block, word) if line == f"@{block}" else "" for line in text.splitlines()]
+    at = text.splitlines().index(f"@{block}") + 1 if block else 0
+    return "\n".join(lines) + "\n", at
