@@ -1,6 +1,6 @@
 """MapServer's keywords of each block of a mapfile, and what mapservd makes of them.
 
-`lint` looks words up here, and docs/MAPSERVER.md is written from it by `deploy/keywords`. The rules themselves stand in
+`lint` looks words up here, and docs/MAPSERVER.md is written from it by `tools/keywords`. The rules themselves stand in
 docs/MAPFILE.md, and the server follows those alone: tests/gate/lint_agrees.py compares what lint and the server say.
 """
 

@@ -1,10 +1,10 @@
 #!/usr/bin/python3
-"""What bench/gate_minutes.py says of a gate."""
+"""What tools/gate_minutes.py says of a gate."""
 import unittest
 
 import loading
 
-minutes = loading.script("bench/gate_minutes.py")
+minutes = loading.script("tools/gate_minutes.py")
 LINES = ["# Ground", "base: thiserror", "side: base", "middle: base hex", "top: side middle", "apart:"]
 # crate, kind and seconds of processes
 SEEN = {

@@ -1,4 +1,4 @@
-//! The sources, and what comes of them: written by `bench/hostile_counts.py --write`, from the rules of `docs/`.
+//! The sources, and what comes of them: written by `tools/hostile_counts.py --write`, from the rules of `docs/`.
 
 /// A worked source of the reader of the mapfile.
 pub const MAPFILE: &[u8] = b"\

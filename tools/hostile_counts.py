@@ -12,6 +12,8 @@ import pathlib
 import re
 import sys
 
+sys.path.insert(0, str(pathlib.Path(__file__).resolve().parent / "lib"))
+
 from hostile_models import Fault, Mapfile, bad_byte, is_text, outcome, pixmap, query, table
 
 TESTS = pathlib.Path(__file__).resolve().parent.parent / "crates/hostile_tests/src/inputs.rt"
@@ -307,7 +309,7 @@ def literal(source):
 
 def written():
     """The module of the tests that has the sources and the rows."""
-    parts = ["//! The sources, and what comes of them: written by `bench/hostile_counts.py --write`, from the rules of `docs/`.\n"]
+    parts = ["//! The sources, and what comes of them: written by `tools/hostile_counts.py --write`, from the rules of `docs/`.\n"]
     for name, outcomes_of in READERS.items():
         source, constant = SOURCES[name], name.upper()
         rows = "\n".join(row(outcomes_of, source, way) for way in WAYS)

@@ -1,4 +1,4 @@
-"""The table of rules and promises, rules.csv beside this file, and the page that is made of it.
+"""The table of rules and promises, tools/rules.csv, and the page that is made of it.
 
 A row is a rule or a promise. Its columns, with `; ` between the entries of a cell and a remark in round brackets at the
 end of an entry, or alone:
@@ -19,9 +19,9 @@ import os
 import pathlib
 import re
 
-import planted
+import mutants
 
-TABLE = pathlib.Path(__file__).resolve().parent / "rules.csv"
+TABLE = pathlib.Path(__file__).resolve().parents[1] / "rules.csv"
 DOCS = TABLE.parent.parent / "docs"
 PAGE = DOCS / "developers" / "RULES.md"
 CRATES_PAGE = TABLE.parent.parent / "crates" / "README.md"
@@ -30,7 +30,7 @@ MOST_WORDS = 30
 BEFORE = ("over", "by", "model")
 HEAD = """# Rules and promises
 
-Each rule and promise: the definition that states it, the clauses that keep it, and what runs for it in the program. The subjects stand in the order of a request; then come mapfiles and files, batches, sharing and the program. Each gate checks every cell; `bench/documents.py --write` makes this page of [rules.csv](RULES_CSV).
+Each rule and promise: the definition that states it, the clauses that keep it, and what runs for it in the program. The subjects stand in the order of a request; then come mapfiles and files, batches, sharing and the program. Each gate checks every cell; `tools/documents.py --write` makes this page of [rules.csv](RULES_CSV).
 
 - `httpedge::exchange` is the call `exchange` of the crate `httpedge`; a name in small letters after it is a clause of that call. A call without one has one clause, which has no name. A call of a trait is promised of all that implement it. `laws` are facts about the definitions.
 - Definitions and code stand below `crates/`; names after a file are in it. A *model* is a definition of the code's steps, which no rule cites.
@@ -126,7 +126,7 @@ def shown(row):
 
 
 def page():
-    head = HEAD.replace("RULES_CSV", relative(TABLE)).replace("PLANTED_CSV", relative(planted.TABLE))
+    head = HEAD.replace("RULES_CSV", relative(TABLE)).replace("PLANTED_CSV", relative(mutants.TABLE))
     parts, subject = [head.replace("VERIFICATION_MD", relative(document("VERIFICATION")))], None
     for row in rows():
         if row["subject"] != subject:
@@ -166,15 +166,15 @@ def found_code(words, row, crates):
 
 
 @functools.cache
-def mutants():
-    return planted.rows()
+def planted():
+    return mutants.rows()
 
 
 def is_planted(row):
     """Whether a mutant of planted.csv changes a function of the row."""
     named = [words for column in ("kept by", "code") for words in named_in(row, column)]
     functions = {word.rpartition("::")[2] for words in named for word in words}
-    return any(mutant["crate"] in crates_of(named) and mutant["function"].rpartition("::")[2] in functions for mutant in mutants())
+    return any(mutant["crate"] in crates_of(named) and mutant["function"].rpartition("::")[2] in functions for mutant in planted())
 
 
 def found_mutants(row, crates):
@@ -211,6 +211,6 @@ def found(row, crates):
 def check(crates):
     """What the cells name and the page says: each with its place, and whether it is there."""
     for number, row in enumerate(rows(), 2):
-        yield from ((f"bench/rules.csv:{number}: {what}", is_there) for what, is_there in found(row, crates))
+        yield from ((f"tools/rules.csv:{number}: {what}", is_there) for what, is_there in found(row, crates))
     is_made = PAGE.exists() and PAGE.read_text() == page()
-    yield f"{relative(PAGE)}: the page that bench/rules.csv gives (bench/documents.py --write makes it)", is_made
+    yield f"{relative(PAGE)}: the page that tools/rules.csv gives (tools/documents.py --write makes it)", is_made
