@@ -8,10 +8,14 @@ of one with 1, divided by 10; 3 million stand for a millisecond of processor. Ea
 made here by the rules of docs/WMS.md. It fails where one differs, and where a document, or an answer on a map of
 which some 50 features are in the view, costs more than 3 million. Everything that it reads it makes by rule.
 """
+import pathlib
 import sys
 import tempfile
 
-from changed_maps import Counting, POINT_TILE, TILE, box_round, degrees, features, scattered, seen
+sys.path.insert(0, str(pathlib.Path(__file__).resolve().parent / "lib"))
+
+from counting import Counting, POINT_TILE, TILE, box_round, degrees, features, scattered, seen
+
 
 WORLD = (-180_000_000, -90_000_000, 180_000_000, 90_000_000)
 LIMIT = 3_000_000

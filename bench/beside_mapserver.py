@@ -18,8 +18,10 @@ import pathlib
 import re
 import sys
 
+sys.path.insert(0, str(pathlib.Path(__file__).resolve().parent / "lib"))
+
 from both_servers import DEMO, LAYERS, PNG, PPM, SMOOTHED, STEPPED, as_png, degrees_of, metres_of, picture, servers, tiles
-from painting_counts import scattered_points
+from painted import scattered_points
 
 EARTH, TILE, SEA = (-180, -90, 180, 90), (5, 43, 16, 54), (-40, -60, -29, -49)
 SIZES, SMALL = [(1024, 512), (2048, 1024)], (256, 256)

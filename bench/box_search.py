@@ -9,30 +9,21 @@ nanoseconds for a query of the index, and of the list; what 1,000 queries found,
 with Boxes; and whether both found the same.
 """
 import pathlib
-import shutil
 import subprocess
 import sys
 import tempfile
 
-HERE = pathlib.Path(__file__).resolve().parent
-CRATES = """geom: itoa thiserror
-collide: geom
-gridindex: geom
-boxsearch: geom collide gridindex
-"""
+sys.path.insert(0, str(pathlib.Path(__file__).resolve().parent / "lib"))
+
+from programs import laid
+
+USED = ("geom", "collide", "gridindex")
 
 
 def main():
     with tempfile.TemporaryDirectory() as folder:
-        top = pathlib.Path(folder)
-        for name in ["geom", "collide", "gridindex"]:
-            shutil.copytree(HERE.parent / "crates" / name, top / "crates" / name)
-        source = top / "crates" / "boxsearch" / "src"
-        source.mkdir(parents=True)
-        shutil.copy(HERE / "box_search.rt.txt", source / "main.rt")
-        (top / "crates.txt").write_text(CRATES)
-        subprocess.run(["git", "init", "-q", folder], check=True)
-        built = subprocess.run(["rt", "run"], cwd=source.parent, stdout=subprocess.PIPE, stderr=subprocess.STDOUT)
+        crate = laid(folder, "box_search.rt.txt", USED)
+        built = subprocess.run(["rt", "run"], cwd=crate, stdout=subprocess.PIPE, stderr=subprocess.STDOUT)
         lines = built.stdout.decode().splitlines()
     rows = [line.split() for line in lines if line.split(" ")[0] in ("index", "Grid", "Boxes")]
     for row in rows:

@@ -7,32 +7,13 @@ A figure is the number of instructions that callgrind of valgrind counts: of a s
 that of one with 1, divided by 10. From a picture is taken what the same picture of a layer costs that isn't visible
 at its scale, so that it is the drawing alone. Everything that it reads it makes by rule, in a folder of its own.
 """
-import os
-import re
-import subprocess
+import pathlib
 import sys
 import tempfile
 
-# Some 50 of 20,000 features that lie all over the earth are in this part of it, or of 200,000 in the lesser one.
-TILE = (2_000_000, 40_000_000, 15_000_000, 53_000_000)
-POINT_TILE = (2_000_000, 40_000_000, 6_100_000, 44_100_000)
+sys.path.insert(0, str(pathlib.Path(__file__).resolve().parent / "lib"))
 
-
-def scattered(count):
-    """Places all over the earth."""
-    return [(k * 7_919_017 % 360_000_000 - 180_000_000, k * 104_729_011 % 180_000_000 - 90_000_000) for k in range(count)]
-
-
-def degrees(number):
-    return f"{number / 1_000_000:.6f}"
-
-
-def points(places):
-    return " ".join(f"{degrees(x)} {degrees(y)}" for x, y in places)
-
-
-def box_round(x, y, half):
-    return [(x - half, y - half), (x + half, y - half), (x + half, y + half), (x - half, y + half)]
+from counting import Counting, POINT_TILE, TILE, box_round, degrees, features, scattered, seen
 
 
 def slope(x, y, half):
@@ -44,10 +25,6 @@ def layer(name, kind, body, scale=""):
         f'LAYER\nNAME "{name}"\nTYPE {kind}\n{scale}{body[0]}CLASS\nSTYLE\nCOLOR 10 20 30\nWIDTH 3\nSIZE 4\nEND\nEND\n'
         f"{body[1]}END\n"
     )
-
-
-def features(places, shape):
-    return "".join(f"FEATURE\nPOINTS {points(shape(x, y, 60_000))} END\nEND\n" for x, y in places)
 
 
 def query(name, box):
@@ -65,37 +42,6 @@ def batch(text):
 def append(name, count):
     table = "x,y\n" + "".join(f"{k % 360 - 180},{k % 180 - 90}\n" for k in range(count))
     return f"APPEND {len(table)} {name}\n{table}"
-
-
-class Counting:
-    """A folder with maps and scripts, and the program whose instructions are counted."""
-
-    def __init__(self, program, folder):
-        self.program, self.folder = os.path.abspath(program), folder
-
-    def path(self, name, content):
-        path = os.path.join(self.folder, name)
-        with open(path, "w") as file:
-            file.write(content)
-        return path
-
-    def instructions(self, mapfile, script):
-        words = ["valgrind", "--tool=callgrind", "--callgrind-out-file=/dev/null", self.program, "run", mapfile, script]
-        done = subprocess.run(words, stdout=subprocess.PIPE, stderr=subprocess.PIPE, text=True)
-        counted = re.search(r"Collected\s*:\s*(\d+)", done.stderr)
-        if done.returncode != 0 or not counted:
-            sys.exit(f"failed: status {done.returncode}: {done.stderr[-300:]}")
-        return int(counted.group(1)), done.stdout
-
-    def each(self, mapfile, command):
-        """What one of the same commands costs, and what the first one is answered."""
-        many, _ = self.instructions(mapfile, self.path("many.script", command * 11))
-        one, answer = self.instructions(mapfile, self.path("one.script", command))
-        return (many - one) / 10, answer
-
-
-def seen(places, box):
-    return sum(box[0] <= x < box[2] and box[1] <= y < box[3] for x, y in places)
 
 
 def main():

@@ -7,33 +7,24 @@ with 1 if the number of glyphs is another than that of the encodings in the file
 """
 import pathlib
 import re
-import shutil
 import statistics
 import subprocess
 import sys
 import tempfile
 
-HERE = pathlib.Path(__file__).resolve().parent
-CRATES = """geom: itoa thiserror
-mapdefs: geom thiserror
-bdffont: geom mapdefs thiserror
-fontreading: geom mapdefs bdffont
-"""
+sys.path.insert(0, str(pathlib.Path(__file__).resolve().parent / "lib"))
+
+from programs import laid
+
+USED = ("geom", "mapdefs", "bdffont")
 
 
 def main():
     font = pathlib.Path(sys.argv[1]).read_bytes()
     encodings = set(re.findall(rb"^ENCODING (\d+)", font, re.MULTILINE))
     with tempfile.TemporaryDirectory() as folder:
-        top = pathlib.Path(folder)
-        for name in ["geom", "mapdefs", "bdffont"]:
-            shutil.copytree(HERE.parent / "crates" / name, top / "crates" / name)
-        source = top / "crates" / "fontreading" / "src"
-        source.mkdir(parents=True)
-        shutil.copy(HERE / "font_reading.rt.txt", source / "main.rt")
-        (top / "crates.txt").write_text(CRATES)
-        subprocess.run(["git", "init", "-q", folder], check=True)
-        built = subprocess.run(["rt", "run"], cwd=source.parent, input=font, stdout=subprocess.PIPE, stderr=subprocess.STDOUT)
+        crate = laid(folder, "font_reading.rt.txt", USED)
+        built = subprocess.run(["rt", "run"], cwd=crate, input=font, stdout=subprocess.PIPE, stderr=subprocess.STDOUT)
         lines = built.stdout.decode(errors="replace").splitlines()
     rows = [line.split() for line in lines if line.startswith("font ")]
     if len(rows) != 9 or any(int(row[1]) != len(encodings) for row in rows):

@@ -8,11 +8,15 @@ workload the time of as many pictures of an empty layer in the same session is t
 left is the painting alone: not the reading of the map, nor the hexadecimal.
 """
 import math
+import pathlib
 import re
 import sys
 import tempfile
 
-from polygon_filling import SQUARE, measure, query, run, with_empty_layer
+sys.path.insert(0, str(pathlib.Path(__file__).resolve().parent / "lib"))
+
+from timed import SQUARE, measure, query, run, with_empty_layer
+
 
 EARTH = "-180,-90,180,90"
 

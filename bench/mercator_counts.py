@@ -12,8 +12,11 @@ import pathlib
 import sys
 import tempfile
 
+sys.path.insert(0, str(pathlib.Path(__file__).resolve().parent / "lib"))
+
 from both_servers import HALF, degrees_of, metres_of
-from painting_counts import build, filled, layer, layers_of, of_extent, outlined, painted, scattered_lines, scattered_points
+from painted import filled, layer, layers_of, of_extent, outlined, painted, scattered_lines, scattered_points
+from programs import build
 
 MOST = 1.15
 # The world, tiles of zooms 5 and 8 round the north of Switzerland, one of zoom 4 in Scandinavia, and one at the equator.

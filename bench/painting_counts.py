@@ -10,91 +10,16 @@ by five, less that of an empty layer's picture. OTHER is the same program as it 
 it is given, its figures stand beside, and the script ends with 1 if one picture differs.
 """
 import pathlib
-import random
-import re
-import shutil
-import subprocess
 import sys
 import tempfile
 
-from polygon_filling import small_squares
+sys.path.insert(0, str(pathlib.Path(__file__).resolve().parent / "lib"))
 
-HERE = pathlib.Path(__file__).resolve().parent
-USED = ["mapparse", "layers", "mapdefs", "geom", "scaledenom", "viewport", "symbols", "compose"]
+from painted import filled, layer, layers_of, of_extent, outlined, painted, scattered_lines, scattered_points
+from programs import build
+from timed import small_squares
+
 EARTH, TILE, PART = "-180 -90 180 90", "5 43 16 54", "0 0 4 4"
-
-
-def needed(used):
-    """The crates that a program stands on, in the order of crates.txt, and what each line of it has."""
-    lines = (HERE.parent / "crates.txt").read_text().splitlines()
-    stands_on = {name: below.split() for name, below in (line.split(":") for line in lines if line[:1] not in ("", "#"))}
-    found, open_names = set(), list(used)
-    while open_names:
-        name = open_names.pop()
-        if name in stands_on and name not in found:
-            found.add(name)
-            open_names += stands_on[name]
-    return [name for name in stands_on if name in found], stands_on
-
-
-def build(folder, source_name="painting_counts.rt.txt", used=tuple(USED)):
-    """The program, or another one of bench/ that stands on these crates, built in the folder."""
-    top, called = pathlib.Path(folder), source_name.partition(".")[0].replace("_", "")
-    names, stands_on = needed(used)
-    for name in names:
-        shutil.copytree(HERE.parent / "crates" / name, top / "crates" / name, ignore=shutil.ignore_patterns("out"))
-    source = top / "crates" / called / "src"
-    source.mkdir(parents=True)
-    shutil.copy(HERE / source_name, source / "main.rt")
-    lines = [f"{name}: {' '.join(stands_on[name])}" for name in names] + [f"{called}: {' '.join(used)}"]
-    (top / "crates.txt").write_text("\n".join(lines) + "\n")
-    subprocess.run(["git", "init", "-q", folder], check=True)
-    subprocess.run(["rt", "run", "--", "0"], cwd=source.parent, input=b"", stdout=sys.stderr, check=True)
-    return str(source.parent / "out" / called)
-
-
-def of_extent(extent, layer):
-    return f"MAP\nEXTENT {extent}\n{layer}\nEND\n"
-
-
-def layer(kind, style, features):
-    """A layer of features of one part each, by degrees."""
-    parts = ("FEATURE\nPOINTS\n" + "".join(f"{x:.6f} {y:.6f}\n" for x, y in part) + "END\nEND\n" for part in features)
-    return f'LAYER\nNAME "a"\nTYPE {kind}\nCLASS\nSTYLE\n{style}\nEND\nEND\n{"".join(parts)}END'
-
-
-def layers_of(world):
-    """The layers of the countries and of the rivers."""
-    first, second = [found.start() for found in re.finditer(r"(?m)^\s*LAYER$", world)][:2]
-    return world[first:second].rstrip(), world[second:].rstrip().removesuffix("END").rstrip()
-
-
-def filled(countries):
-    return re.sub(r"(?m)^\s*(OUTLINECOLOR [0-9 ]+|WIDTH \d+)\n", "", countries)
-
-
-def outlined(countries, width):
-    alone = re.sub(r"(?m)^\s*COLOR [0-9 ]+\n(\s*OUTLINECOLOR)", r"\1", countries)
-    return re.sub(r"(?m)^(\s*)WIDTH \d+$", rf"\g<1>WIDTH {width}", alone)
-
-
-def scattered_lines(count):
-    """Lines of four vertices, some 3 pixels apart at 2,048 by 1,024."""
-    random.seed(5)
-    for _ in range(count):
-        x, y = random.uniform(-179, 178), random.uniform(-89, 88)
-        part = [(x, y)]
-        for _ in range(3):
-            x, y = x + random.uniform(-0.6, 0.6), y + random.uniform(-0.6, 0.6)
-            part.append((x, y))
-        yield part
-
-
-def scattered_points(count):
-    """Points of the world, one a feature."""
-    random.seed(3)
-    for _ in range(count):
-        yield [(random.uniform(-179, 179), random.uniform(-89, 89))]
 
 
 def workloads(world):
@@ -116,19 +41,6 @@ def workloads(world):
     yield "20,000 lines of 4 vertices, 1 wide", lines, 2048, 1024
     points = of_extent(EARTH, layer("POINT", "COLOR 10 20 30\nSIZE 5", scattered_points(20_000)))
     yield "20,000 points as squares of 5 pixels", points, 2048, 1024
-
-
-def counted(program, mapfile, count, *words):
-    """The instructions of a run, and what it wrote."""
-    command = ["valgrind", "--tool=callgrind", "--callgrind-out-file=/dev/null", program, str(count), *map(str, words)]
-    run = subprocess.run(command, input=mapfile.encode(), stdout=subprocess.PIPE, stderr=subprocess.PIPE, check=True)
-    return int(re.search(rb"Collected : (\d+)", run.stderr)[1]), run.stdout
-
-
-def painted(program, mapfile, *words):
-    """The instructions of one picture by its sides, in web mercator with a third word, and its bytes."""
-    one, picture = counted(program, mapfile, 1, *words)
-    return (counted(program, mapfile, 6, *words)[0] - one) / 5, picture
 
 
 def main():

@@ -19,7 +19,10 @@ import tempfile
 
 from PIL import Image
 
-from painting_counts import build
+sys.path.insert(0, str(pathlib.Path(__file__).resolve().parent / "lib"))
+
+from programs import build
+
 
 DEMO = pathlib.Path(__file__).resolve().parent.parent / "demo"
 USED = ("geom", "mapdefs", "png")

@@ -8,48 +8,14 @@ of it that the program refuses are left out too, and printed.
 Of each workload the time of as many pictures of an empty layer in the same session is taken away, so that
 what is left is the painting alone: not the reading of the map, nor the hexadecimal.
 """
-import os
+import pathlib
 import subprocess
 import sys
 import tempfile
 
-SQUARE = "0,0,4,4"
+sys.path.insert(0, str(pathlib.Path(__file__).resolve().parent / "lib"))
 
-
-def query(layers, box, width, height):
-    return (
-        f"QUERY VERSION=1.3.0&REQUEST=GetMap&LAYERS={layers}&STYLES=&CRS=CRS:84&BBOX={box}"
-        f"&WIDTH={width}&HEIGHT={height}&FORMAT=image/x-portable-pixmap\n"
-    )
-
-
-def run(program, session, output=subprocess.DEVNULL):
-    """The seconds of processor, and the greatest memory in MB, of a session."""
-    with tempfile.TemporaryFile() as file:
-        file.write(session.encode())
-        file.seek(0)
-        child = subprocess.Popen([program], stdin=file, stdout=output)
-        _, status, usage = os.wait4(child.pid, 0)
-        if status != 0:
-            sys.exit(f"failed: status {status}")
-        return usage.ru_utime + usage.ru_stime, usage.ru_maxrss // 1024
-
-
-def measure(name, program, mapfile, layers, box, width, height, pictures):
-    """Prints the time of one picture: the least of three sessions, without that of an empty picture."""
-    paint = query(layers, box, width, height) * pictures
-    empty = query("nothing", box, width, height) * pictures
-    full = [run(program, mapfile + "%%\n" + paint) for _ in range(3)]
-    bare = [run(program, mapfile + "%%\n" + empty) for _ in range(3)]
-    seconds = (min(t for t, _ in full) - min(t for t, _ in bare)) / pictures
-    peak = max(m for _, m in full)
-    print(f"{name}: {seconds * 1000:.1f} ms a picture, {peak} MB at most ({max(m for _, m in bare)} MB empty)")
-
-
-def with_empty_layer(mapfile):
-    """The mapfile with a layer of no feature before its last END."""
-    head, tail = mapfile.rstrip().rsplit("END", 1)
-    return f'{head}LAYER\nNAME "nothing"\nTYPE POLYGON\nEND\nEND{tail}\n'
+from timed import SQUARE, measure, query, run, small_squares, with_empty_layer
 
 
 def without(lines, word):
@@ -105,15 +71,6 @@ def long_ring():
     """A square whose left side has 65,533 vertices."""
     side = [(1, 3 - 0.00003 * k) for k in range(65_533)]
     return [side + [(1, 1), (3, 1), (3, 3)]]
-
-
-def small_squares(count):
-    """Squares of about three pixels by three, on 2,048 by 2,048 pixels of four degrees by four."""
-    size = 0.006
-    for k in range(count):
-        x = (k * 7919) % 3_990 / 1000
-        y = (k * 104_729) % 3_990 / 1000
-        yield [(x, y), (x + size, y), (x + size, y + size), (x, y + size)]
 
 
 def check_square(program, mapfile):

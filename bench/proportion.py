@@ -21,9 +21,10 @@ import threading
 import time
 
 sys.path.insert(0, str(pathlib.Path(__file__).resolve().parents[1] / "tests" / "lib"))
+sys.path.insert(0, str(pathlib.Path(__file__).resolve().parent / "lib"))
 
-from served import come_and_go, ports_of, read_all
-from table import Bench
+from served import ports_of, read_all
+from workloads import Bench
 
 HIGH = 2.5
 # below this many seconds a ratio says nothing

@@ -8,20 +8,16 @@ valgrind counts them, and the bytes of the heap for each row at most, by massif.
 """
 import pathlib
 import re
-import shutil
 import statistics
 import subprocess
 import sys
 import tempfile
 
-HERE = pathlib.Path(__file__).resolve().parent
-CRATES = """geom: itoa thiserror
-mapdefs: geom thiserror
-csvpoints: geom mapdefs csv thiserror
-gridindex: geom
-layers: csvpoints gridindex geom mapdefs thiserror
-rowreading: geom mapdefs csvpoints layers
-"""
+sys.path.insert(0, str(pathlib.Path(__file__).resolve().parent / "lib"))
+
+from programs import laid
+
+USED = ("geom", "mapdefs", "csvpoints", "layers")
 STEPS = ["reading", "appending", "clearing"]
 
 
@@ -56,14 +52,7 @@ def most_heap(folder, program, text):
 def main():
     count = int(sys.argv[1]) if len(sys.argv) > 1 else 100_000
     with tempfile.TemporaryDirectory() as folder:
-        top = pathlib.Path(folder)
-        for name in ["geom", "mapdefs", "csvpoints", "gridindex", "layers"]:
-            shutil.copytree(HERE.parent / "crates" / name, top / "crates" / name)
-        crate = top / "crates" / "rowreading"
-        (crate / "src").mkdir(parents=True)
-        shutil.copy(HERE / "row_reading.rt.txt", crate / "src" / "main.rt")
-        (top / "crates.txt").write_text(CRATES)
-        subprocess.run(["git", "init", "-q", folder], check=True)
+        crate = laid(folder, "row_reading.rt.txt", USED)
         said = ran(["rt", "run"], table(count), cwd=crate)
         turns = [dict(zip(row.split()[::2], map(int, row.split()[1::2]))) for row in said.splitlines() if row.startswith("reading ")]
         if len(turns) != 5:

@@ -22,7 +22,7 @@ import sys
 from PIL import Image, ImageChops
 
 TOP = pathlib.Path(__file__).resolve().parents[2]
-sys.path.insert(0, str(TOP / "bench"))
+sys.path.insert(0, str(TOP / "bench" / "lib"))
 sys.path.insert(0, str(TOP / "deploy" / "lib"))
 
 from both_servers import DEMO, as_png, both, degrees_of, metres_of, picture, tiles

@@ -19,14 +19,14 @@ import sys
 import tempfile
 import time
 
-sys.path.insert(0, str(pathlib.Path(__file__).resolve().parents[1] / "tests" / "lib"))
+sys.path.insert(0, str(pathlib.Path(__file__).resolve().parents[2] / "tests" / "lib"))
 
+from painted import scattered_lines, scattered_points
 from painting import read_places
-from painting_counts import scattered_lines, scattered_points
 from served import ports_of
-from table import random_labels, winding
+from workloads import random_labels, winding
 
-DEMO = pathlib.Path(__file__).resolve().parent.parent / "demo"
+DEMO = pathlib.Path(__file__).resolve().parents[2] / "demo"
 PPM, PNG = "image/x-portable-pixmap", "image/png"
 HALF = 20037508.342789244
 
