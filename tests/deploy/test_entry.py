@@ -46,7 +46,7 @@ class Signals(unittest.TestCase):
         entry.stdout.close()
 
     def test_the_unit_does_so_too(self):
-        unit = (DEPLOY / "kesmoch@.service").read_text(encoding="utf-8")
+        unit = (DEPLOY / "system" / "kesmoch@.service").read_text(encoding="utf-8")
         traps = [line for line in unit.splitlines() if line.startswith("ExecStart=") and 'trap "" HUP XFSZ; ' in line]
         self.assertEqual(len(traps), 1)
 

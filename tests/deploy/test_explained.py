@@ -17,7 +17,7 @@ FORMS = {
 }
 # How many servers each starts.
 FOUND = {
-    "README.md": 1, "docs/OPERATING.md": 4, "docs/CLIENTS.md": 1, "deploy/README.md": 1, "deploy/kesmoch@.service": 1, "deploy/Containerfile": 1, "deploy/up": 1,
+    "README.md": 1, "docs/OPERATING.md": 4, "docs/CLIENTS.md": 1, "deploy/README.md": 1, "deploy/system/kesmoch@.service": 1, "deploy/system/Containerfile": 1, "deploy/up": 1,
     "demo/serve": 2,
 }
 
@@ -30,7 +30,7 @@ def commands_of(path):
 
 class Servers(unittest.TestCase):
     def test_each_explains_how_it_ends(self):
-        paths = [path for folder in ("", "docs", "deploy", "demo") for path in sorted((TOP / folder).iterdir()) if path.is_file()]
+        paths = [path for folder in ("", "docs", "deploy", "deploy/system", "demo") for path in sorted((TOP / folder).iterdir()) if path.is_file()]
         found = {str(path.relative_to(TOP)): commands for path in paths if (commands := commands_of(path))}
         self.assertEqual({name: len(commands) for name, commands in found.items()}, FOUND)
         self.assertEqual([line for commands in found.values() for line in commands if "--explain" not in line], [])
