@@ -10,7 +10,7 @@ CONSTANTS = {
     "MS_STYLE_BINDING_LENGTH": 12, "MS_SYMBOL_PIXMAP": 1003,
 }
 loading.has_package("mapscript", **CONSTANTS)
-loading.has_package("PIL", "Image", "ImageChops", "ImageFilter", "ImageDraw", "ImageFont")
+loading.has_package("PIL", "Image", "ImageChops", "ImageFilter", "ImageDraw", "ImageFont", "ImageStat")
 from mapconvert import classes, compare, layers, marks, shapes, styles
 from mapconvert.report import Node, Report
 
