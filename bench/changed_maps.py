@@ -44,44 +44,55 @@ def append(name, count):
     return f"APPEND {len(table)} {name}\n{table}"
 
 
+def table(places):
+    return "x,y\n" + "".join(f"{degrees(x)},{degrees(y)}\n" for x, y in places)
+
+
+def tiles(counting, maps):
+    """Prints what a tile costs on each map, without that of a layer which isn't visible."""
+    hidden = layer("hidden", "POLYGON", ("", ""), "MINSCALEDENOM 1000000000\n")
+    print("| A tile of 256 by 256 | Features | Seen | Million instructions |\n|---|---|---|---|")
+    for name, (text, places, tile) in maps.items():
+        path = counting.path("a.map", text + hidden + "END\n")
+        drawn, _ = counting.each(path, query("a", tile))
+        empty, _ = counting.each(path, query("hidden", tile))
+        print(f"| {name} | {len(places):,} | {seen(places, tile)} | {(drawn - empty) / 1e6:.2f} |", flush=True)
+
+
+def print_batch(counting, path, name, command):
+    """Prints what a batch costs, which has to be published."""
+    cost, answer = counting.each(path, batch(command))
+    if not answer.startswith("PUBLISHED 1\n"):
+        sys.exit(f"failed: {answer}")
+    print(f"| {name} | {cost / 1e6:.2f} |", flush=True)
+
+
+def batches(counting, text, far):
+    """Prints what batches cost beside a layer of many points."""
+    path = counting.path("a.map", text + layer("b", "POINT", ("", "")) + "END\n")
+    print("\n| A batch beside 200,000 points | Million instructions |\n|---|---|")
+    print_batch(counting, path, "switches another layer off", "OFF b\n")
+    print_batch(counting, path, "appends a point to another layer", append("b", 1))
+    print_batch(counting, path, "empties another layer", "CLEAR b\n")
+    # 200,000 points are the most of a layer, so that it has fewer before
+    counting.path("points.csv", table(far[:189_000]))
+    print_batch(counting, path, "appends 1,000 points to a layer of 189,000", append("a", 1_000))
+
+
 def main():
     if len(sys.argv) != 2:
         sys.exit(__doc__.split("\n\n")[1])
     with tempfile.TemporaryDirectory() as folder:
         counting = Counting(sys.argv[1], folder)
         far, few = scattered(200_000), scattered(20_000)
-        table = "x,y\n" + "".join(f"{degrees(x)},{degrees(y)}\n" for x, y in far)
-        counting.path("points.csv", table)
-        hidden = layer("hidden", "POLYGON", ("", ""), "MINSCALEDENOM 1000000000\n")
+        counting.path("points.csv", table(far))
         maps = {
             "polygons": ("MAP\n" + layer("a", "POLYGON", ("", features(few, box_round))), few, TILE),
             "lines": ("MAP\n" + layer("a", "LINE", ("", features(few, slope))), few, TILE),
             "points of a table": ("MAP\n" + layer("a", "POINT", ('DATA "points.csv"\n', "")), far, POINT_TILE),
         }
-        print("| A tile of 256 by 256 | Features | Seen | Million instructions |\n|---|---|---|---|")
-        for name, (text, places, tile) in maps.items():
-            path = counting.path("a.map", text + hidden + "END\n")
-            drawn, _ = counting.each(path, query("a", tile))
-            empty, _ = counting.each(path, query("hidden", tile))
-            print(f"| {name} | {len(places):,} | {seen(places, tile)} | {(drawn - empty) / 1e6:.2f} |", flush=True)
-        small = layer("b", "POINT", ("", ""))
-        path = counting.path("a.map", maps["points of a table"][0] + small + "END\n")
-        print("\n| A batch beside 200,000 points | Million instructions |\n|---|---|")
-        for name, text in [
-            ("switches another layer off", "OFF b\n"),
-            ("appends a point to another layer", append("b", 1)),
-            ("empties another layer", "CLEAR b\n"),
-        ]:
-            cost, answer = counting.each(path, batch(text))
-            if not answer.startswith("PUBLISHED 1\n"):
-                sys.exit(f"failed: {answer}")
-            print(f"| {name} | {cost / 1e6:.2f} |", flush=True)
-        # 200,000 points are the most of a layer, so that it has fewer before
-        counting.path("points.csv", "x,y\n" + "".join(f"{degrees(x)},{degrees(y)}\n" for x, y in far[:189_000]))
-        cost, answer = counting.each(path, batch(append("a", 1_000)))
-        if not answer.startswith("PUBLISHED 1\n"):
-            sys.exit(f"failed: {answer}")
-        print(f"| appends 1,000 points to a layer of 189,000 | {cost / 1e6:.2f} |")
+        tiles(counting, maps)
+        batches(counting, maps["points of a table"][0], far)
 
 
 if __name__ == "__main__":

@@ -15,7 +15,7 @@ import tempfile
 
 sys.path.insert(0, str(pathlib.Path(__file__).resolve().parent / "lib"))
 
-from timed import SQUARE, measure, query, run, with_empty_layer
+from timed import SQUARE, Sessions, query, run, with_empty_layer
 
 
 EARTH = "-180,-90,180,90"
@@ -71,21 +71,21 @@ def check_outline(program):
 
 def main():
     program, path = sys.argv[1:3]
-    pictures = int(sys.argv[3]) if len(sys.argv) > 3 else 20
+    sessions = Sessions(program, int(sys.argv[3]) if len(sys.argv) > 3 else 20)
     with open(path) as file:
         world = with_empty_layer(file.read())
     check_outline(program)
     for width in [1, 3]:
         borders = of_width(outlines_alone(world), width)
-        measure(f"borders of countries, width {width}, 2048 by 1024", program, borders, "countries", EARTH, 2048, 1024, pictures)
-    measure("countries and their borders, 2048 by 1024", program, world, "countries", EARTH, 2048, 1024, pictures)
-    measure("borders off the view", program, outlines_alone(world), "countries", "500,500,501,501", 2048, 1024, pictures)
-    measure("rivers, 2048 by 1024", program, world, "rivers", EARTH, 2048, 1024, pictures)
+        sessions.measure(f"borders of countries, width {width}, 2048 by 1024", borders, query("countries", EARTH, 2048, 1024))
+    sessions.measure("countries and their borders, 2048 by 1024", world, query("countries", EARTH, 2048, 1024))
+    sessions.measure("borders off the view", outlines_alone(world), query("countries", "500,500,501,501", 2048, 1024))
+    sessions.measure("rivers, 2048 by 1024", world, query("rivers", EARTH, 2048, 1024))
     for name, points in [("a spiral of 65,536 vertices", spiral(65_536)), ("a zigzag of 2,048 vertices", zigzag(2_048))]:
         line = with_empty_layer(layer("LINE", "COLOR 10 20 30\nWIDTH 32", [feature(points)]))
-        measure(f"{name} across the picture, width 32, 2048 by 2048", program, line, "a", SQUARE, 2048, 2048, 1)
+        sessions.measure(f"{name} across the picture, width 32, 2048 by 2048", line, query("a", SQUARE, 2048, 2048), 1)
     squares = with_empty_layer(layer("POINT", "COLOR 10 20 30\nSIZE 5", map(feature, ([place] for place in scattered(200_000)))))
-    measure("200,000 squares of 5 pixels, 2048 by 2048", program, squares, "a", SQUARE, 2048, 2048, 1)
+    sessions.measure("200,000 squares of 5 pixels, 2048 by 2048", squares, query("a", SQUARE, 2048, 2048), 1)
 
 
 if __name__ == "__main__":

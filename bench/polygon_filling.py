@@ -15,7 +15,7 @@ import tempfile
 
 sys.path.insert(0, str(pathlib.Path(__file__).resolve().parent / "lib"))
 
-from timed import SQUARE, measure, query, run, small_squares, with_empty_layer
+from timed import SQUARE, Sessions, query, run, small_squares, with_empty_layer
 
 
 def without(lines, word):
@@ -89,18 +89,18 @@ def check_square(program, mapfile):
 
 def main():
     program, path = sys.argv[1:3]
-    pictures = int(sys.argv[3]) if len(sys.argv) > 3 else 20
+    sessions = Sessions(program, int(sys.argv[3]) if len(sys.argv) > 3 else 20)
     world = accepted(program, path)
     for width, height in [(2048, 1024), (1024, 512), (256, 256)]:
-        measure(f"countries, {width} by {height}", program, world, "countries", "-180,-90,180,90", width, height, pictures)
-    measure("countries, off the view", program, world, "countries", "500,500,501,501", 2048, 1024, pictures)
+        sessions.measure(f"countries, {width} by {height}", world, query("countries", "-180,-90,180,90", width, height))
+    sessions.measure("countries, off the view", world, query("countries", "500,500,501,501", 2048, 1024))
     ring = features(long_ring())
     check_square(program, ring)
-    measure("64 rings of 65,536 vertices, 2048 by 2048", program, ring, ",".join(["a"] * 64), SQUARE, 2048, 2048, 1)
+    sessions.measure("64 rings of 65,536 vertices, 2048 by 2048", ring, query(",".join(["a"] * 64), SQUARE, 2048, 2048), 1)
     squares = features(small_squares(20_000))
-    measure("20,000 small squares, 2048 by 2048", program, squares, "a", SQUARE, 2048, 2048, pictures)
-    measure("20,000 small squares, off the view", program, squares, "a", "500,500,504,504", 2048, 2048, pictures)
-    measure("20,000 squares smaller than a pixel, 256 by 256", program, squares, "a", SQUARE, 256, 256, pictures)
+    sessions.measure("20,000 small squares, 2048 by 2048", squares, query("a", SQUARE, 2048, 2048))
+    sessions.measure("20,000 small squares, off the view", squares, query("a", "500,500,504,504", 2048, 2048))
+    sessions.measure("20,000 squares smaller than a pixel, 256 by 256", squares, query("a", SQUARE, 256, 256))
 
 
 if __name__ == "__main__":

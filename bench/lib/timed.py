@@ -1,5 +1,6 @@
 """The processor's time of pictures in a session, without that of an empty layer's."""
 import os
+import re
 import subprocess
 import sys
 import tempfile
@@ -8,6 +9,7 @@ SQUARE = "0,0,4,4"
 
 
 def query(layers, box, width, height):
+    """The line of a session that asks for a picture."""
     return (
         f"QUERY VERSION=1.3.0&REQUEST=GetMap&LAYERS={layers}&STYLES=&CRS=CRS:84&BBOX={box}"
         f"&WIDTH={width}&HEIGHT={height}&FORMAT=image/x-portable-pixmap\n"
@@ -26,15 +28,20 @@ def run(program, session, output=subprocess.DEVNULL):
         return usage.ru_utime + usage.ru_stime, usage.ru_maxrss // 1024
 
 
-def measure(name, program, mapfile, layers, box, width, height, pictures):
-    """Prints the time of one picture: the least of three sessions, without that of an empty picture."""
-    paint = query(layers, box, width, height) * pictures
-    empty = query("nothing", box, width, height) * pictures
-    full = [run(program, mapfile + "%%\n" + paint) for _ in range(3)]
-    bare = [run(program, mapfile + "%%\n" + empty) for _ in range(3)]
-    seconds = (min(t for t, _ in full) - min(t for t, _ in bare)) / pictures
-    peak = max(m for _, m in full)
-    print(f"{name}: {seconds * 1000:.1f} ms a picture, {peak} MB at most ({max(m for _, m in bare)} MB empty)")
+class Sessions:
+    """The program, and how many pictures a session asks for."""
+
+    def __init__(self, program, pictures):
+        self.program, self.pictures = program, pictures
+
+    def measure(self, name, mapfile, asked, pictures=None):
+        """Prints the time of one picture: the least of three sessions, without that of an empty layer's."""
+        count = pictures or self.pictures
+        empty = re.sub("LAYERS=[^&]*", "LAYERS=nothing", asked)
+        full, bare = ([run(self.program, mapfile + "%%\n" + one * count) for _ in range(3)] for one in (asked, empty))
+        seconds = (min(t for t, _ in full) - min(t for t, _ in bare)) / count
+        peak = max(m for _, m in full)
+        print(f"{name}: {seconds * 1000:.1f} ms a picture, {peak} MB at most ({max(m for _, m in bare)} MB empty)")
 
 
 def with_empty_layer(mapfile):

@@ -59,13 +59,18 @@ class Values:
             self.check_expression(first)
         elif key == "STYLE SYMBOL":
             self.wanted.append(first)
-        elif key == "MAP CONFIG" and first.text in keywords.OFFERED:
-            offered = keywords.OFFERED[first.text]
-            if set(values[1].text.split(" ")) - {"", *offered.split()}:
-                self.refused(values[1], f"CONFIG {first}", " or ".join(offered.split()))
-        elif key == "MAP CONFIG" and first.text == "WMS_SMOOTHING":
-            if values[1].text not in keywords.SMOOTHINGS.split():
-                self.refused(values[1], f"CONFIG {first}", " or ".join(keywords.SMOOTHINGS.split()))
+        elif key == "MAP CONFIG":
+            self.check_config(first, values)
+
+    def check_config(self, name, values):
+        """Whether what is offered, and the factor of a smoothed map, are among those that the server has."""
+        is_offer = name.text in keywords.OFFERED
+        if not is_offer and name.text != "WMS_SMOOTHING":
+            return
+        known = (keywords.OFFERED[name.text] if is_offer else keywords.SMOOTHINGS).split()
+        given = set(values[1].text.split(" ")) - {""} if is_offer else {values[1].text}
+        if given - set(known):
+            self.refused(values[1], f"CONFIG {name}", " or ".join(known))
 
     def check_count(self, value, word, least, most):
         counted = mapfile.count(value.text)

@@ -183,40 +183,58 @@ def drawn(program, folder, chosen, asked):
     return [(pam, png) for (_, pam), (_, png) in zip(answers[::2], answers[1::2])]
 
 
+class Comparison:
+    """The readers that are there, and what they made of the pictures so far."""
+
+    def __init__(self, folder):
+        self.readers, self.skipped = readers()
+        self.folder, self.pages, self.checks = folder, Pages(folder), shutil.which("pngcheck") is not None
+        self.forms, self.wrong, self.count = collections.Counter(), 0, 0
+        self.skipped += [name for name, there in (("pngcheck", self.checks), ("Chromium", self.pages.browser)) if not there]
+
+    def take(self, pam, png):
+        """Has all but Chromium read a PNG, and keeps it for that one."""
+        path, (width, height, pixels) = self.folder / "a.png", of_pam(pam)
+        path.write_bytes(png)
+        self.forms[form_of(chunks_of(png))] += 1
+        others = [name for name, read in self.readers for found in [read(path)] if found[:2] != (width, height) or seen(found[2]) != pixels]
+        others += ["pngcheck"] if self.checks and not is_checked(path) else []
+        for name in others:
+            pathlib.Path(f"{name}-{self.count}.png").write_bytes(png)
+            print(f"{name} reads another picture: {name}-{self.count}.png")
+        self.wrong += len(others)
+        self.pages.add(self.count, png, (width, height, pixels))
+        self.count += 1
+
+    def read_pages(self):
+        """Has Chromium read what was kept for it."""
+        for number in self.pages.read():
+            self.wrong += 1
+            print(f"Chromium reads another picture: number {number}")
+
+    def summary(self):
+        """The forms of the files, and by whom they were read."""
+        forms = [f"{form}: {count:,}" for form, count in sorted(self.forms.items())]
+        names = [name for name, _ in self.readers] + ["pngcheck"] * self.checks + ["Chromium"] * bool(self.pages.browser)
+        last = f"{self.count:,} pictures, read by {', '.join(names)}: {self.wrong} differ"
+        return "\n".join([*forms, last + "".join(f"; skipped: {name}" for name in self.skipped)])
+
+
 def main():
     program = sys.argv[1]
     wanted = int(sys.argv[2]) if len(sys.argv) > 2 else 2_000
     chosen = random.Random(int(sys.argv[3]) if len(sys.argv) > 3 else 1)
-    those, skipped = readers()
     folder = pathlib.Path(tempfile.mkdtemp())
-    pages, forms, wrong, compared = Pages(folder), collections.Counter(), 0, 0
-    checks = shutil.which("pngcheck") is not None
-    skipped += [name for name, there in (("pngcheck", checks), ("Chromium", pages.browser)) if not there]
-    while compared < wanted:
-        for pam, png in drawn(program, folder, chosen, min(OF_A_MAP, wanted - compared)):
-            path = folder / "a.png"
-            path.write_bytes(png)
-            width, height, pixels = of_pam(pam)
-            forms[form_of(chunks_of(png))] += 1
-            others = [name for name, read in those for found in [read(path)] if found[:2] != (width, height) or seen(found[2]) != pixels]
-            others += ["pngcheck"] if checks and not is_checked(path) else []
-            for name in others:
-                pathlib.Path(f"{name}-{compared}.png").write_bytes(png)
-                print(f"{name} reads another picture: {name}-{compared}.png")
-            wrong += len(others)
-            pages.add(compared, png, (width, height, pixels))
-            compared += 1
-        if len(pages.pictures) >= OF_A_PAGE or compared == wanted:
-            for number in pages.read():
-                wrong += 1
-                print(f"Chromium reads another picture: number {number}")
-        print(f"{compared:,}: {wrong} differ", file=sys.stderr, flush=True)
+    found = Comparison(folder)
+    while found.count < wanted:
+        for pam, png in drawn(program, folder, chosen, min(OF_A_MAP, wanted - found.count)):
+            found.take(pam, png)
+        if len(found.pages.pictures) >= OF_A_PAGE or found.count == wanted:
+            found.read_pages()
+        print(f"{found.count:,}: {found.wrong} differ", file=sys.stderr, flush=True)
     shutil.rmtree(folder)
-    for form, count in sorted(forms.items()):
-        print(f"{form}: {count:,}")
-    names = [name for name, _ in those] + ["pngcheck"] * checks + ["Chromium"] * bool(pages.browser)
-    print(f"{compared:,} pictures, read by {', '.join(names)}: {wrong} differ" + "".join(f"; skipped: {name}" for name in skipped))
-    return 1 if wrong else 0
+    print(found.summary())
+    return 1 if found.wrong else 0
 
 
 if __name__ == "__main__":

@@ -1,9 +1,13 @@
 #!/usr/bin/python3
 """Addresses, and the lines that answer at an administration port (deploy/lib/administration.py)."""
 import http.server
+import pathlib
 import socket
+import sys
 import threading
 import unittest
+
+sys.path.insert(0, str(pathlib.Path(__file__).resolve().parents[1] / "lib"))
 
 import loading  # noqa: F401
 import administration

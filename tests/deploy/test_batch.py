@@ -2,8 +2,12 @@
 """What deploy/batch makes of its arguments and of a server's answers."""
 import contextlib
 import io
+import pathlib
+import sys
 import unittest
 from unittest import mock
+
+sys.path.insert(0, str(pathlib.Path(__file__).resolve().parents[1] / "lib"))
 
 import loading
 import administration

@@ -2,9 +2,13 @@
 """The commands of a batch as people write them (deploy/lib/commands.py)."""
 import io
 import os
+import pathlib
 import stat
+import sys
 import tempfile
 import unittest
+
+sys.path.insert(0, str(pathlib.Path(__file__).resolve().parents[1] / "lib"))
 
 import loading  # noqa: F401
 import commands

@@ -1,7 +1,11 @@
 #!/usr/bin/python3
 """What MapServer's clients may see of a map (deploy/lib/mapconvert/access.py)."""
+import pathlib
+import sys
 import unittest
 from types import SimpleNamespace
+
+sys.path.insert(0, str(pathlib.Path(__file__).resolve().parents[1] / "lib"))
 
 import loading  # noqa: F401
 from mapconvert import access

@@ -1,8 +1,12 @@
 #!/usr/bin/python3
 """What deploy/convert makes of styles that are bound to items (deploy/lib/mapconvert/bound.py), where mapscript is or a stand-in for it."""
 import copy
+import pathlib
+import sys
 import unittest
 from types import SimpleNamespace
+
+sys.path.insert(0, str(pathlib.Path(__file__).resolve().parents[1] / "lib"))
 
 import loading
 

@@ -1,6 +1,10 @@
 #!/usr/bin/python3
 """Conditions of labels and layers by MapServer's rules (deploy/lib/mapconvert/conditions.py)."""
+import pathlib
+import sys
 import unittest
+
+sys.path.insert(0, str(pathlib.Path(__file__).resolve().parents[1] / "lib"))
 
 import loading  # noqa: F401
 from mapconvert import conditions

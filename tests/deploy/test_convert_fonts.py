@@ -1,9 +1,13 @@
 #!/usr/bin/python3
 """At which size deploy/convert makes the font of the labels (deploy/lib/mapconvert/fonts.py)."""
+import pathlib
+import sys
 import tempfile
 import unittest
 from types import SimpleNamespace
 from unittest import mock
+
+sys.path.insert(0, str(pathlib.Path(__file__).resolve().parents[1] / "lib"))
 
 import loading
 

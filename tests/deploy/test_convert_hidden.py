@@ -1,8 +1,12 @@
 #!/usr/bin/python3
 """What MapServer draws nothing of (deploy/lib/mapconvert/hidden.py), and which mapfiles it answers nobody from (deploy/convert)."""
+import pathlib
+import sys
 import unittest
 from types import SimpleNamespace
 from unittest import mock
+
+sys.path.insert(0, str(pathlib.Path(__file__).resolve().parents[1] / "lib"))
 
 import loading
 

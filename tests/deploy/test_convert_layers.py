@@ -1,7 +1,11 @@
 #!/usr/bin/python3
 """What deploy/convert decides on classes, styles and places, where mapscript is or a stand-in for it."""
+import pathlib
+import sys
 import unittest
 from types import SimpleNamespace
+
+sys.path.insert(0, str(pathlib.Path(__file__).resolve().parents[1] / "lib"))
 
 import loading
 
@@ -164,7 +168,7 @@ class Places(unittest.TestCase):
         for number, text in rows:
             self.assertEqual(shapes.coordinate(number), text)
         for number in (1000.0001, -1001, float("nan"), float("inf")):
-            with self.assertRaises(shapes.features.Shape):
+            with self.assertRaises(shapes.vectors.Shape):
                 shapes.coordinate(number)
 
     def test_a_place_of_the_page_stands_in_the_extent(self):

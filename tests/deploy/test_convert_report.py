@@ -1,8 +1,12 @@
 #!/usr/bin/python3
 """The report of deploy/convert: where blocks and keywords stand, and what is said of them."""
 import os
+import pathlib
+import sys
 import tempfile
 import unittest
+
+sys.path.insert(0, str(pathlib.Path(__file__).resolve().parents[1] / "lib"))
 
 import loading  # noqa: F401
 from mapconvert import leftovers

@@ -1,7 +1,11 @@
 #!/usr/bin/python3
 """What deploy/convert makes of styles, labels and names, where mapscript is or a stand-in for it."""
+import pathlib
+import sys
 import unittest
 from types import SimpleNamespace
+
+sys.path.insert(0, str(pathlib.Path(__file__).resolve().parents[1] / "lib"))
 
 import loading
 

@@ -1,6 +1,10 @@
 #!/usr/bin/python3
 """Texts of labels by the rules of MapServer's expressions (deploy/lib/mapconvert/texts.py)."""
+import pathlib
+import sys
 import unittest
+
+sys.path.insert(0, str(pathlib.Path(__file__).resolve().parents[1] / "lib"))
 
 import loading  # noqa: F401
 from mapconvert import texts

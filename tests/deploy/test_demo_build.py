@@ -3,10 +3,14 @@
 import contextlib
 import io
 import os
+import pathlib
 import shutil
+import sys
 import tempfile
 import unittest
 from unittest import mock
+
+sys.path.insert(0, str(pathlib.Path(__file__).resolve().parents[1] / "lib"))
 
 import loading
 

@@ -2,8 +2,11 @@
 """How demo/front.py hands requests on."""
 import asyncio
 import os
+import pathlib
 import sys
 import unittest
+
+sys.path.insert(0, str(pathlib.Path(__file__).resolve().parents[1] / "lib"))
 
 import loading
 

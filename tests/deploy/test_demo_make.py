@@ -1,8 +1,11 @@
 #!/usr/bin/python3
 """What demo/make writes beside demo/smooth.map."""
 import os
+import pathlib
 import sys
 import unittest
+
+sys.path.insert(0, str(pathlib.Path(__file__).resolve().parents[1] / "lib"))
 
 import loading
 

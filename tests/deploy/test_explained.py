@@ -2,7 +2,10 @@
 """That each server which a unit, the image, a script or a document's command starts is told to explain how it ends."""
 import pathlib
 import re
+import sys
 import unittest
+
+sys.path.insert(0, str(pathlib.Path(__file__).resolve().parents[1] / "lib"))
 
 import loading  # noqa: F401
 

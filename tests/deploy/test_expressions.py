@@ -1,6 +1,10 @@
 #!/usr/bin/python3
 """Which texts are logical expressions (deploy/lib/mapfile.py), by the grammar of docs/MAPFILE.md."""
+import pathlib
+import sys
 import unittest
+
+sys.path.insert(0, str(pathlib.Path(__file__).resolve().parents[1] / "lib"))
 
 import loading  # noqa: F401
 import mapfile

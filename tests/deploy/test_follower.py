@@ -2,10 +2,14 @@
 """How a follower gives a server the batches of a log, and what it notes (deploy/lib/follower.py)."""
 import json
 import os
+import pathlib
+import sys
 import tempfile
 import unittest
 from types import SimpleNamespace
 from unittest import mock
+
+sys.path.insert(0, str(pathlib.Path(__file__).resolve().parents[1] / "lib"))
 
 import loading  # noqa: F401
 import follower

@@ -3,12 +3,16 @@
 import http.server
 import itertools
 import os
+import pathlib
 import struct
+import sys
 import threading
 import unittest
 import zlib
 from types import SimpleNamespace
 from unittest import mock
+
+sys.path.insert(0, str(pathlib.Path(__file__).resolve().parents[1] / "lib"))
 
 import loading
 

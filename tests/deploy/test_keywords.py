@@ -1,6 +1,10 @@
 #!/usr/bin/python3
 """The list of MapServer's keywords (deploy/lib/keywords.py)."""
+import pathlib
+import sys
 import unittest
+
+sys.path.insert(0, str(pathlib.Path(__file__).resolve().parents[1] / "lib"))
 
 import loading  # noqa: F401
 import keywords

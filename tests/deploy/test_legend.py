@@ -2,10 +2,14 @@
 """The legend that deploy/legend writes of a mapfile."""
 import base64
 import os
+import pathlib
 import struct
+import sys
 import tempfile
 import unittest
 import zlib
+
+sys.path.insert(0, str(pathlib.Path(__file__).resolve().parents[1] / "lib"))
 
 import loading
 

@@ -2,11 +2,15 @@
 """Which layers and sources deploy/mapproxy writes of a document, and which backgrounds it takes."""
 import contextlib
 import io
+import pathlib
 import re
+import sys
 import tempfile
 import unittest
 import xml.etree.ElementTree
 from types import SimpleNamespace
+
+sys.path.insert(0, str(pathlib.Path(__file__).resolve().parents[1] / "lib"))
 
 import loading
 

@@ -1,10 +1,14 @@
 #!/usr/bin/python3
 """What deploy/metrics counts of the lines of the log, by "Log" of docs/SERVICE.md, with a stand-in for the client of Prometheus."""
 import collections
+import pathlib
+import sys
 import tempfile
 import unittest
 from types import SimpleNamespace
 from unittest import mock
+
+sys.path.insert(0, str(pathlib.Path(__file__).resolve().parents[1] / "lib"))
 
 import loading
 

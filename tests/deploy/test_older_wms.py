@@ -1,8 +1,12 @@
 #!/usr/bin/python3
 """WMS 1.1.1 before a server of 1.3.0 (deploy/lib/wmsolder.py), by OGC 01-068r3."""
+import pathlib
+import sys
 import unittest
 import urllib.parse
 import xml.etree.ElementTree
+
+sys.path.insert(0, str(pathlib.Path(__file__).resolve().parents[1] / "lib"))
 
 import loading  # noqa: F401
 import wmsolder

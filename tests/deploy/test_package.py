@@ -1,9 +1,13 @@
 #!/usr/bin/python3
 """What deploy/package lays out for a package; none is made."""
 import os
+import pathlib
 import stat
+import sys
 import tempfile
 import unittest
+
+sys.path.insert(0, str(pathlib.Path(__file__).resolve().parents[1] / "lib"))
 
 import loading
 

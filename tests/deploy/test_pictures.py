@@ -4,8 +4,12 @@ import base64
 import io
 import json
 import os
+import pathlib
+import sys
 import tempfile
 import unittest
+
+sys.path.insert(0, str(pathlib.Path(__file__).resolve().parents[1] / "lib"))
 
 import loading
 

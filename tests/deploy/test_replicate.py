@@ -1,9 +1,13 @@
 #!/usr/bin/python3
 """What deploy/replicate and the log of batches decide (deploy/lib/batchlog.py), with a stand-in for PostgreSQL."""
 import hashlib
+import pathlib
+import sys
 import unittest
 from types import SimpleNamespace
 from unittest import mock
+
+sys.path.insert(0, str(pathlib.Path(__file__).resolve().parents[1] / "lib"))
 
 import loading
 

@@ -2,10 +2,13 @@
 """How deploy/rotate reads a journal, and which batches it writes, by "Journal" and "Batches" of docs/SERVICE.md."""
 import hashlib
 import os
+import pathlib
 import subprocess
 import sys
 import tempfile
 import unittest
+
+sys.path.insert(0, str(pathlib.Path(__file__).resolve().parents[1] / "lib"))
 
 import loading
 import commands

@@ -2,8 +2,12 @@
 """Numbers and tokens of a mapfile (deploy/lib/mapfile.py)."""
 import decimal
 import os
+import pathlib
+import sys
 import tempfile
 import unittest
+
+sys.path.insert(0, str(pathlib.Path(__file__).resolve().parents[1] / "lib"))
 
 import loading  # noqa: F401
 import mapfile

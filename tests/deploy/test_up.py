@@ -6,10 +6,13 @@ import select
 import signal
 import socket
 import subprocess
+import sys
 import tempfile
 import unittest
 from types import SimpleNamespace
 from unittest import mock
+
+sys.path.insert(0, str(pathlib.Path(__file__).resolve().parents[1] / "lib"))
 
 import loading
 

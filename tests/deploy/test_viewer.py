@@ -2,10 +2,14 @@
 """The viewer's functions (deploy/viewer), run by node where it is, and what its page loads."""
 import json
 import os
+import pathlib
 import re
 import shutil
 import subprocess
+import sys
 import unittest
+
+sys.path.insert(0, str(pathlib.Path(__file__).resolve().parents[1] / "lib"))
 
 import loading
 

@@ -238,14 +238,28 @@ def tear(bench):
         file.write(b"\xc0\0\0\0half")
 
 
+def begin_torn(bench):
+    """Leaves a journal with a torn end: what was reported as published, and what wasn't answered."""
+    life = bench.must_start()
+    published, open_batches = few(bench, life)
+    life.end()
+    tear(bench)
+    return published, open_batches
+
+
+def must_go_on(bench, published, open_batches):
+    """That the next server has what it must have, and takes further batches."""
+    after = bench.must_start()
+    bench.look(after, published, open_batches)
+    _, rest = few(bench, after)
+    after.end()
+    return not rest
+
+
 def tried_at(bench, at, how, is_torn, found):
     """A life whose call of this number is stopped, torn or fails: whether there was one."""
     bench.renew()
-    if is_torn:
-        life = bench.must_start()
-        published, open_batches = few(bench, life)
-        life.end()
-        tear(bench)
+    published, open_batches = begin_torn(bench) if is_torn else ({}, [])
     life = Life(bench, at, how)
     if is_torn and life.ports:
         bench.look(life, published, open_batches)
@@ -265,13 +279,8 @@ def tried_at(bench, at, how, is_torn, found):
         raise Wrong(f"where call {at} fails the status is {status}: {errors!r}")
     if is_torn and not life.ports:
         published_now, open_now = published, open_batches
-    after = bench.must_start()
-    bench.look(after, published_now, open_now)
-    # and it takes further ones
-    last, rest = few(bench, after)
-    if rest:
+    if not must_go_on(bench, published_now, open_now):
         raise Wrong(f"after call {at} ({how}) a batch isn't answered")
-    after.end()
     found[f"{how}, {'torn' if is_torn else 'new'}"] += reached
     return reached
 

@@ -101,63 +101,87 @@ def served():
     return server.returncode, rest, errors, ran
 
 
+def sessions(full):
+    """A session on standard input."""
+    answer = b"ANSWER text/xml 215\n" + MISSING
+    yield "played", run(MAP + QUERY), (0, answer, b"")
+    yield "faulty script", run(MAP + b"x\n"), (0, b"fault script 1\n", b"")
+    yield "faulty mapfile", run(b"MAP\nFOO END\n"), (1, b"", b"fault line 2 kind 2\n")
+    yield "full output", run(MAP + QUERY, stdout=full), (3, None, b"")
+    yield "no memory", run(LARGE, limit=16_000_000), (4, b"", b"")
+
+
+def checks(full):
+    """`check`, which needs a mapfile alone."""
+    yield "check", run(b"", "check", "good.map"), (0, b"ok 1 layers 0 features\n", b"")
+    yield "check many", run(b"", "check", "large.map"), (0, b"ok 1 layers 30 features\n", b"")
+    yield "check faulty", run(b"", "check", "bad.map"), (1, b"", b"fault line 3 kind 2\n")
+    yield "explain", run(b"", "check", "--explain", "good.map"), (0, b"ok 1 layers 0 features\n", NO_ADDRESS % b"good")
+    yield "explain faulty", run(b"", "check", "--explain", "bad.map"), (1, b"", IN_WORDS)
+    yield "explain a symbol", run(b"", "check", "--explain", "symbol.map"), (0, b"ok 0 layers 0 features\n", NO_ADDRESS % b"symbol")
+    yield "explain no symbol", run(b"", "check", "--explain", "maps/symbol.map"), (1, b"", NO_SYMBOL)
+    yield "check no file", run(b"", "check", "no.map"), (1, b"", b"fault file no.map\n")
+    yield "check a folder", run(b"", "check", "."), (1, b"", b"fault file .\n")
+    yield "check full output", run(b"", "check", "good.map", stdout=full), (3, None, b"")
+    yield "check no memory", run(b"", "check", "large.map", limit=16_000_000), (4, b"", b"")
+    yield "check full output explained", run(b"", "check", "--explain", "good.map", stdout=full), (3, None, b"error: standard output can't be written\n")
+    yield "check no memory explained", run(b"", "check", "--explain", "large.map", limit=16_000_000), (4, b"", b"error: out of memory\n")
+
+
+def runs(full):
+    """`run` of a mapfile and a script."""
+    answer = b"ANSWER text/xml 215\n" + MISSING
+    yield "run explained", run(b"", "run", "--explain", "good.map", "none.script"), (1, b"", NO_ADDRESS % b"good" + b"fault file none.script\nnone.script: the file is missing\n")
+    yield "run", run(b"", "run", "good.map", "good.script"), (0, answer, b"")
+    yield "run faulty script", run(b"", "run", "good.map", "bad.script"), (0, b"fault script 2\n", b"")
+    yield "run faulty mapfile", run(b"", "run", "bad.map", "no.script"), (1, b"", b"fault line 3 kind 2\n")
+    yield "run no script", run(b"", "run", "good.map", "no.script"), (1, b"", b"fault file no.script\n")
+    yield "run no mapfile", run(b"", "run", "no.map", "no.script"), (1, b"", b"fault file no.map\n")
+    yield "run full output", run(b"", "run", "good.map", "good.script", stdout=full), (3, None, b"")
+
+
+def services(full, taken, free):
+    """`serve`, on ports that are free, taken or the same."""
+    yield "serve explained", run(b"", "serve", "--explain", "bad.map"), (1, b"", IN_WORDS)
+    yield "served", served(), (0, b"", b"", True)
+    yield "serve taken port", run(b"", "serve", "good.map", "--port", taken, "--admin-port", "0"), (3, b"", b"")
+    yield "serve taken admin port", run(b"", "serve", "good.map", "--port", "0", "--admin-port", taken), (3, b"", b"")
+    yield "serve one port", run(b"", "serve", "good.map", "--port", free, "--admin-port", free), (3, b"", b"")
+    yield "serve full output", run(b"", "serve", "good.map", "--port", "0", "--admin-port", "0", stdout=full), (3, None, b"")
+    yield "serve taken port explained", run(b"", "serve", "--explain", "good.map", "--port", taken, "--admin-port", "0"), (3, b"", NO_ADDRESS % b"good" + b"error: port %s of 127.0.0.1 is taken\n" % taken.encode())
+    yield "serve faulty mapfile", run(b"", "serve", "bad.map", "--port", taken), (1, b"", b"fault line 3 kind 2\n")
+    yield "serve no mapfile", run(b"", "serve", "no.map", "--port", taken), (1, b"", b"fault file no.map\n")
+
+
+def arguments():
+    """Arguments that are refused."""
+    yield "serve no words", run(b"", "serve"), (2, b"", NO_FILE)
+    yield "serve no such port", run(b"", "serve", "good.map", "--port", "65536"), not_in_range(b"65536", b"port", b"PORT", b"0..=65535")
+    yield "serve no such admin port", run(b"", "serve", "good.map", "--admin-port", "70000"), not_in_range(b"70000", b"admin-port", b"PORT", b"0..=65535")
+    yield "serve no workers", run(b"", "serve", "good.map", "--workers", "0"), not_in_range(b"0", b"workers", b"COUNT", b"1..=32")
+    yield "serve too many workers", run(b"", "serve", "good.map", "--workers", "33"), not_in_range(b"33", b"workers", b"COUNT", b"1..=32")
+    yield "words", run(MAP + QUERY, "run", "good.map"), (2, b"", REFUSED)
+    yield "no text", run(MAP + QUERY, "check", b"\xff.map"), (2, b"", NOT_UTF8)
+
+
+def rows(full, taken):
+    """What is tried: a name, what came of it, and what has to."""
+    return [*sessions(full), *checks(full), *runs(full), *services(full, taken, free_port()), *arguments()]
+
+
 def main():
     wrong = 0
-    answer = b"ANSWER text/xml 215\n" + MISSING
     sys.argv[1] = os.path.abspath(sys.argv[1])
     with tempfile.TemporaryDirectory() as folder, open("/dev/full", "wb") as full, socket.socket() as held:
         held.bind(("127.0.0.1", 0))
         held.listen()
-        taken, free = str(held.getsockname()[1]), free_port()
         os.chdir(folder)
         os.mkdir("maps")
         for name, text in FILES.items():
             with open(name, "wb") as file:
                 file.write(text)
-        rows = [
-            ("played", run(MAP + QUERY), (0, answer, b"")),
-            ("faulty script", run(MAP + b"x\n"), (0, b"fault script 1\n", b"")),
-            ("faulty mapfile", run(b"MAP\nFOO END\n"), (1, b"", b"fault line 2 kind 2\n")),
-            ("full output", run(MAP + QUERY, stdout=full), (3, None, b"")),
-            ("no memory", run(LARGE, limit=16_000_000), (4, b"", b"")),
-            ("check", run(b"", "check", "good.map"), (0, b"ok 1 layers 0 features\n", b"")),
-            ("check many", run(b"", "check", "large.map"), (0, b"ok 1 layers 30 features\n", b"")),
-            ("check faulty", run(b"", "check", "bad.map"), (1, b"", b"fault line 3 kind 2\n")),
-            ("explain", run(b"", "check", "--explain", "good.map"), (0, b"ok 1 layers 0 features\n", NO_ADDRESS % b"good")),
-            ("run explained", run(b"", "run", "--explain", "good.map", "none.script"), (1, b"", NO_ADDRESS % b"good" + b"fault file none.script\nnone.script: the file is missing\n")),
-            ("serve explained", run(b"", "serve", "--explain", "bad.map"), (1, b"", IN_WORDS)),
-            ("explain faulty", run(b"", "check", "--explain", "bad.map"), (1, b"", IN_WORDS)),
-            ("explain a symbol", run(b"", "check", "--explain", "symbol.map"), (0, b"ok 0 layers 0 features\n", NO_ADDRESS % b"symbol")),
-            ("explain no symbol", run(b"", "check", "--explain", "maps/symbol.map"), (1, b"", NO_SYMBOL)),
-            ("check no file", run(b"", "check", "no.map"), (1, b"", b"fault file no.map\n")),
-            ("check a folder", run(b"", "check", "."), (1, b"", b"fault file .\n")),
-            ("check full output", run(b"", "check", "good.map", stdout=full), (3, None, b"")),
-            ("check no memory", run(b"", "check", "large.map", limit=16_000_000), (4, b"", b"")),
-            ("run", run(b"", "run", "good.map", "good.script"), (0, answer, b"")),
-            ("run faulty script", run(b"", "run", "good.map", "bad.script"), (0, b"fault script 2\n", b"")),
-            ("run faulty mapfile", run(b"", "run", "bad.map", "no.script"), (1, b"", b"fault line 3 kind 2\n")),
-            ("run no script", run(b"", "run", "good.map", "no.script"), (1, b"", b"fault file no.script\n")),
-            ("run no mapfile", run(b"", "run", "no.map", "no.script"), (1, b"", b"fault file no.map\n")),
-            ("run full output", run(b"", "run", "good.map", "good.script", stdout=full), (3, None, b"")),
-            ("served", served(), (0, b"", b"", True)),
-            ("serve taken port", run(b"", "serve", "good.map", "--port", taken, "--admin-port", "0"), (3, b"", b"")),
-            ("serve taken admin port", run(b"", "serve", "good.map", "--port", "0", "--admin-port", taken), (3, b"", b"")),
-            ("serve one port", run(b"", "serve", "good.map", "--port", free, "--admin-port", free), (3, b"", b"")),
-            ("serve full output", run(b"", "serve", "good.map", "--port", "0", "--admin-port", "0", stdout=full), (3, None, b"")),
-            ("serve taken port explained", run(b"", "serve", "--explain", "good.map", "--port", taken, "--admin-port", "0"), (3, b"", NO_ADDRESS % b"good" + b"error: port %s of 127.0.0.1 is taken\n" % taken.encode())),
-            ("check full output explained", run(b"", "check", "--explain", "good.map", stdout=full), (3, None, b"error: standard output can't be written\n")),
-            ("check no memory explained", run(b"", "check", "--explain", "large.map", limit=16_000_000), (4, b"", b"error: out of memory\n")),
-            ("serve faulty mapfile", run(b"", "serve", "bad.map", "--port", taken), (1, b"", b"fault line 3 kind 2\n")),
-            ("serve no mapfile", run(b"", "serve", "no.map", "--port", taken), (1, b"", b"fault file no.map\n")),
-            ("serve no words", run(b"", "serve"), (2, b"", NO_FILE)),
-            ("serve no such port", run(b"", "serve", "good.map", "--port", "65536"), not_in_range(b"65536", b"port", b"PORT", b"0..=65535")),
-            ("serve no such admin port", run(b"", "serve", "good.map", "--admin-port", "70000"), not_in_range(b"70000", b"admin-port", b"PORT", b"0..=65535")),
-            ("serve no workers", run(b"", "serve", "good.map", "--workers", "0"), not_in_range(b"0", b"workers", b"COUNT", b"1..=32")),
-            ("serve too many workers", run(b"", "serve", "good.map", "--workers", "33"), not_in_range(b"33", b"workers", b"COUNT", b"1..=32")),
-            ("words", run(MAP + QUERY, "run", "good.map"), (2, b"", REFUSED)),
-            ("no text", run(MAP + QUERY, "check", b"\xff.map"), (2, b"", NOT_UTF8)),
-        ]
-    for name, found, expected in rows:
+        tried = rows(full, str(held.getsockname()[1]))
+    for name, found, expected in tried:
         if found != expected:
             wrong += 1
             print(f"{name}: {found}, not {expected}")

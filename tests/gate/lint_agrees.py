@@ -193,43 +193,63 @@ def load_lint():
     return lint
 
 
-def main():
-    if len(sys.argv) < 2:
-        sys.exit(__doc__.split("\n")[0])
-    program, lint = os.path.abspath(sys.argv[1]), load_lint()
-    ours = [path for pattern in OURS for path in sorted(glob.glob(os.path.join(TOP, pattern)))]
-    others = [path for pattern in DEBIAN for path in sorted(glob.glob(pattern))] + sys.argv[2:]
-    count = wrong = 0
-    for path in ours + others:
-        count, wrong = count + 1, wrong + (not agrees(program, lint, path, path))
+class Count:
+    """How many mapfiles were tried, and on how many lint is wrong."""
+
+    def __init__(self):
+        self.tried = self.wrong = 0
+
+    def that(self, is_right):
+        """Counts one, and gives whether lint is right on it."""
+        self.tried, self.wrong = self.tried + 1, self.wrong + (not is_right)
+        return is_right
+
+
+def read(lint, name, text):
+    """The linter that read a layer's text."""
+    linter = lint.Linter(name, whole(LAYER.replace("{}", text)))
+    linter.read_all()
+    return linter
+
+
+def try_texts(lint, count):
+    """Texts on which lint alone has something to say."""
     for text in ONCE:
-        linter = lint.Linter("once", whole(LAYER.replace("{}", text)))
-        linter.read_all()
-        count, wrong = count + 1, wrong + (linter.differences != 1)
-        if linter.differences != 1:
+        linter = read(lint, "once", text)
+        if not count.that(linter.differences == 1):
             print(f"{text}: lint differs {linter.differences} times in place of once: {linter.found}")
     for text, wanted in KEPT_BACK:
-        linter = lint.Linter("kept back", whole(LAYER.replace("{}", text)))
-        linter.read_all()
-        is_right = (linter.differences, len(linter.kept_back)) == (0, wanted)
-        count, wrong = count + 1, wrong + (not is_right)
-        if not is_right:
+        linter = read(lint, "kept back", text)
+        if not count.that((linter.differences, len(linter.kept_back)) == (0, wanted)):
             print(f"{text}: lint finds {linter.kept_back} and {linter.found}")
-    count, wrong = count + 1, wrong + (not looks_into_includes(lint))
-    small = [open(path, encoding="utf-8", errors="surrogateescape").read() for path in ours + others if os.path.getsize(path) < 20_000]
+    count.that(looks_into_includes(lint))
+
+
+def try_made(program, lint, made, count):
+    """Mapfiles that are made, each as a file of a folder."""
     with tempfile.TemporaryDirectory() as folder:
-        made = list(tables()) + [text for source in small for text in spoiled(source)]
         for number, text in enumerate(made):
             path = os.path.join(folder, f"{number}.map")
             with open(path, "w", encoding="utf-8", errors="surrogateescape", newline="") as file:
                 file.write(text)
-            is_right = agrees(program, lint, path, f"made {number}")
-            count, wrong = count + 1, wrong + (not is_right)
-            if not is_right and len(text) < 400:
+            if not count.that(agrees(program, lint, path, f"made {number}")) and len(text) < 400:
                 print(text)
             os.remove(path)
-    print(f"lint_agrees: {count} mapfiles, {wrong} on which lint and check disagree")
-    sys.exit(1 if wrong else 0)
+
+
+def main():
+    if len(sys.argv) < 2:
+        sys.exit(__doc__.split("\n")[0])
+    program, lint, count = os.path.abspath(sys.argv[1]), load_lint(), Count()
+    paths = [path for pattern in OURS for path in sorted(glob.glob(os.path.join(TOP, pattern)))]
+    paths += [path for pattern in DEBIAN for path in sorted(glob.glob(pattern))] + sys.argv[2:]
+    for path in paths:
+        count.that(agrees(program, lint, path, path))
+    try_texts(lint, count)
+    small = [open(path, encoding="utf-8", errors="surrogateescape").read() for path in paths if os.path.getsize(path) < 20_000]
+    try_made(program, lint, list(tables()) + [text for source in small for text in spoiled(source)], count)
+    print(f"lint_agrees: {count.tried} mapfiles, {count.wrong} on which lint and check disagree")
+    sys.exit(1 if count.wrong else 0)
 
 
 if __name__ == "__main__":

@@ -1,4 +1,5 @@
 """Labels placed and painted by the rules of docs/DRAWING.md, "Labels": what the program's are compared with."""
+import dataclasses
 import re
 
 AUTO = ["UR", "UL", "LR", "LL", "CR", "CL", "UC", "LC"]
@@ -46,13 +47,18 @@ class Font:
         return found
 
 
+@dataclasses.dataclass(eq=False)
 class Label:
     """What a class says of its labels. A colour that isn't there leaves its part out."""
 
-    def __init__(self, priority, colour, outline=None, buffer=0, distance=0, position="AUTO", is_partial=False, is_forced=False):
-        self.priority, self.colour, self.outline = priority, colour, outline
-        self.buffer, self.distance = buffer, distance
-        self.position, self.is_partial, self.is_forced = position, is_partial, is_forced
+    priority: int
+    colour: tuple | None
+    outline: tuple | None = None
+    buffer: int = 0
+    distance: int = 0
+    position: str = "AUTO"
+    is_partial: bool = False
+    is_forced: bool = False
 
     def words(self):
         colour = "%d %d %d" % self.colour if self.colour else "-1 -1 -1"
@@ -65,7 +71,7 @@ class Label:
 
     def finer(self, times):
         """The label on a picture so many times as fine."""
-        return Label(self.priority, self.colour, self.outline, times * self.buffer, times * self.distance, self.position, self.is_partial, self.is_forced)
+        return dataclasses.replace(self, buffer=times * self.buffer, distance=times * self.distance)
 
 
 def place(font, size, candidates):

@@ -199,9 +199,9 @@ class LayerWriter:
         for feature in self.features:
             if self.classes.is_computed:
                 feature.values[COMPUTED] = self.classes.name(feature.classes)
-            lines = shapes.features.block(feature, items, self.layer_report)
+            lines = shapes.vectors.block(feature, items, self.layer_report)
             if with_texts and feature.text:
-                lines.insert(1, f"      TEXT {quoted(shapes.features.CONTROL.sub('?', feature.text))}")
+                lines.insert(1, f"      TEXT {quoted(shapes.vectors.CONTROL.sub('?', feature.text))}")
             yield from lines
 
     def title(self):
@@ -212,7 +212,7 @@ class LayerWriter:
         """A LAYER."""
         layer = self.layer
         is_computed = self.classes.is_computed
-        items = shapes.features.items_of(self.items(), [ITEM] if is_computed else [], "_", self.layer_report)
+        items = shapes.vectors.items_of(self.items(), [ITEM] if is_computed else [], "_", self.layer_report)
         if is_computed:
             items[COMPUTED] = ITEM
         lines = ["  LAYER", f"    NAME {quoted(name)}", f"    TYPE {self.kind}"]

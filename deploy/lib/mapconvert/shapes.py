@@ -1,33 +1,18 @@
 """The features of a layer, as MapServer itself reads and chooses them, in degrees."""
-import importlib.machinery
-import importlib.util
-import os
 import sys
 
 import mapscript
 
-from mapconvert import texts
+import vectors
 
 DEGREES = "+proj=longlat +datum=WGS84 +no_defs"
-SOURCES = os.path.join(os.path.dirname(os.path.realpath(__file__)), "..", "..", "features")
 # So many features are one step of what is shown on a terminal.
 STEP = 2_000
-
-
-def load_features():
-    """The functions of deploy/features, which write the blocks."""
-    loader = importlib.machinery.SourceFileLoader("features", os.path.realpath(SOURCES))
-    features = importlib.util.module_from_spec(importlib.util.spec_from_loader("features", loader))
-    loader.exec_module(features)
-    return features
-
-
-features = load_features()
 TYPES = {mapscript.MS_LAYER_POINT: "POINT", mapscript.MS_LAYER_LINE: "LINE", mapscript.MS_LAYER_POLYGON: "POLYGON"}
 WHOLE = 1e30
 
 
-class LayerReport(features.Report):
+class LayerReport(vectors.Report):
     """What the format can't hold of a layer, as lines of a report on the whole map."""
 
     def __init__(self, report, place):
@@ -83,8 +68,8 @@ class Page:
 
 def coordinate(number):
     """A coordinate as the server keeps it: in millionths, of its ninth decimal on, a half away from zero."""
-    if not abs(number) <= features.DEGREES:
-        raise features.Shape(f"the coordinate {number:.9f} is beyond {features.DEGREES} degrees")
+    if not abs(number) <= vectors.DEGREES:
+        raise vectors.Shape(f"the coordinate {number:.9f} is beyond {vectors.DEGREES} degrees")
     sign, digits = ("-", -number) if number < 0 else ("", number)
     whole, rest = f"{digits:.9f}".split(".")
     kept = (int(whole + rest) + 500) // 1000
@@ -117,9 +102,9 @@ def parts_of(shape, kind, page):
     parts = [part for part in parts if part]
     vertices = sum(map(len, parts))
     if not vertices:
-        raise features.Shape("it has no shape")
-    if vertices > features.VERTICES:
-        raise features.Shape(f"it has {vertices} vertices, of at most {features.VERTICES}")
+        raise vectors.Shape("it has no shape")
+    if vertices > vectors.VERTICES:
+        raise vectors.Shape(f"it has {vertices} vertices, of at most {vectors.VERTICES}")
     return parts
 
 
@@ -129,11 +114,11 @@ class Mask:
     def __init__(self, map, name):
         layer, self.shape = map.getLayerByName(name), None
         if layer is None or layer.type != mapscript.MS_LAYER_POLYGON:
-            raise features.Shape(f"MASK {name}: that is no layer of polygons")
+            raise vectors.Shape(f"MASK {name}: that is no layer of polygons")
         for shape in Source(map, layer).shapes():
             self.shape = shape.clone() if self.shape is None else self.shape.Union(shape)
         if self.shape is None:
-            raise features.Shape(f"MASK {name}: that layer has no polygon")
+            raise vectors.Shape(f"MASK {name}: that layer has no polygon")
 
     def cut(self, shape, kind):
         """What lies in the mask of a shape; nothing where nothing does."""
@@ -200,9 +185,9 @@ class Reading:
                 kept.append(feature)
         if shows and count_shown(kept):
             print("\r\033[K", end="", file=sys.stderr, flush=True)
-        if len(kept) > features.FEATURES:
-            self.report.leaves_out(f"feature {features.FEATURES} and what follows", f"a layer has at most {features.FEATURES} features")
-        return kept[: features.FEATURES]
+        if len(kept) > vectors.FEATURES:
+            self.report.leaves_out(f"feature {vectors.FEATURES} and what follows", f"a layer has at most {vectors.FEATURES} features")
+        return kept[: vectors.FEATURES]
 
     def feature(self, shape, found, label_text):
         """A feature as deploy/features writes it; one that the format can't hold is reported."""
@@ -215,10 +200,10 @@ class Reading:
             return None
         try:
             parts = parts_of(shape, self.kind, self.page)
-        except features.Shape as why:
+        except vectors.Shape as why:
             self.report.leaves_out(f"feature {number}", str(why))
             return None
-        feature = features.Feature(number, values, self.kind, parts)
+        feature = vectors.Feature(number, values, self.kind, parts)
         feature.classes, feature.text = found, label_text(found, values, given)
         return feature
 

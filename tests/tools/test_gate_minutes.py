@@ -1,6 +1,10 @@
 #!/usr/bin/python3
 """What tools/gate_minutes.py says of a gate."""
+import pathlib
+import sys
 import unittest
+
+sys.path.insert(0, str(pathlib.Path(__file__).resolve().parents[1] / "lib"))
 
 import loading
 
