@@ -47,6 +47,7 @@ def headings(path):
 
 
 def is_linked(document, target):
+    """Whether the file of a link is there, and its heading."""
     if re.match(r"[a-z]+:", target):
         return True
     path, _, heading = target.partition("#")
@@ -80,6 +81,7 @@ def found_links(document, line):
 
 
 def found_paths(document, line):
+    """Paths, and the files in the first column of a table."""
     firsts = (*FOLDERS, "docs", "crates", ".ci", *CRATES)
     for path in re.findall(r"`([\w.@*-]+/[\w./@*-]*)[ `]", line):
         if path.split("/")[0] in firsts:
@@ -95,6 +97,7 @@ def found_edits(document, line):
 
 
 def found_code(document, line):
+    """Calls and other code of crates and of files."""
     for listed, crate in re.findall(rf"({REMARKED}) of `(\w+)`", line):
         for name in names_of(listed) if crate in CRATES else []:
             yield f"{name} of {crate}", name in CRATES or CRATES[crate].has(name)
@@ -110,6 +113,7 @@ def found_code(document, line):
 
 
 def found_definitions(document, line):
+    """Definitions beside a file of specs/, and modules behind `crate/specs`:."""
     listed = [(names, path) for names, path in re.findall(rf"({NAMES}) (?:of )?`(\w+/specs/\w+(?:\.antt)?)`", line)]
     listed += [(names, path) for path, names in re.findall(rf"`(\w+/specs/\w+)` \(({NAMES})", line)]
     for names, path in listed:

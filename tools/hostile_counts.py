@@ -86,6 +86,7 @@ class Font:
         self.fields, self.given = {}, {}
 
     def read(self):
+        """Reads all lines: a fault has the number of its kind, and its line."""
         lines = self.source.split(b"\n")
         ends = [line.removesuffix(b"\r") for line in lines[:-1]] + ([lines[-1]] if lines[-1] else [])
         for number, line in enumerate(ends, 1):
@@ -112,12 +113,14 @@ class Font:
         return 0 if keyword == b"STARTFONT" else 1
 
     def box(self, words):
+        """The numbers of a box, and the kind of a fault in it."""
         numbers = [integer(word) for word in (words + [None] * 4)[:4]]
         if None in numbers or min(numbers[:2]) < 0:
             return None, 2
         return (numbers, 0) if max(map(abs, numbers)) <= 64 else (None, 5)
 
     def header(self, keyword, words):
+        """A line before the first glyph."""
         if keyword == b"FONTBOUNDINGBOX":
             self.fields["box"], kind = self.box(words)
             return kind
@@ -127,6 +130,7 @@ class Font:
         return self.between(keyword, words) if len(self.fields) == 2 else 2
 
     def between(self, keyword, _words):
+        """A line between two glyphs."""
         if keyword == b"STARTCHAR":
             self.section, self.given, self.started = self.glyph, {}, self.started + 1
             return 0
@@ -136,6 +140,7 @@ class Font:
         return 2
 
     def glyph(self, keyword, words):
+        """A line of a glyph before its rows."""
         if keyword == b"BBX":
             self.given[keyword], kind = self.box(words)
             return kind
@@ -151,6 +156,7 @@ class Font:
         return 2
 
     def rows(self, line, keyword):
+        """A row of a glyph, or its end."""
         if self.left == 0:
             self.section = self.between
             return 0 if keyword == b"ENDCHAR" else 3
@@ -167,6 +173,7 @@ def command(line):
 
 
 def batch(source):
+    """Reads the commands of a batch."""
     at, number = 0, 0
     while at < len(source):
         number += 1
@@ -193,6 +200,7 @@ HEAD = re.compile(rb"(?:\r?\n)*(" + TOKEN + rb") ([\x21-\x7e\x80-\xff]+) HTTP/1\
 
 
 def head(source):
+    """Reads the head of a request."""
     if not source:
         raise Fault(4, 0)
     found = HEAD.match(source)
@@ -210,6 +218,7 @@ def head(source):
 
 # Scripts and administrators: docs/SERVICE.md, Sessions and Administration
 def script(source):
+    """Reads the commands of a script."""
     at, number = 0, 0
     while at < len(source):
         number += 1
@@ -244,6 +253,7 @@ def administrator(source):
 
 # What is made of a source
 def numbers_from(seed):
+    """Numbers by a linear congruence, of 16 bits each."""
     while True:
         seed = (seed * 1_103_515_245 + 12_345) % 2**32
         yield seed // 65_536
@@ -255,6 +265,7 @@ def drawn(seed):
 
 
 def of_lines(source, seed):
+    """Lines of a source in another order, 4,096 bytes of them."""
     lines, numbers, made = source.split(b"\n"), numbers_from(seed), b""
     while len(made) < 4_096:
         made += lines[next(numbers) % len(lines)] + b"\n"
@@ -262,6 +273,7 @@ def of_lines(source, seed):
 
 
 def made_of(source, way):
+    """The inputs that are made of a source in one way."""
     if way == "prefixes":
         return [source[:length] for length in range(len(source) + 1)]
     if way == "drawn":
@@ -291,6 +303,7 @@ READERS = {
 
 
 def row(outcomes_of, source, way):
+    """A row of the tests: how often each outcome comes, and the sum of the lines."""
     counts, lines = [0] * OUTCOMES, 0
     for made in made_of(source, way):
         for kind, line in outcomes_of(made):

@@ -53,6 +53,7 @@ KINDS = ("edit", "clause", "prover", "tests", "law", "script", "nothing at first
 
 
 def print_counts(table):
+    """Prints how many mutants each crate has, by what refuses them."""
     def line(name, of):
         counts = [sum(kind_of(row) == kind for row in of) for kind in KINDS]
         print(f"{name:15}{len(of):5}" + "".join(f"{count or '':>{len(kind) + 2}}" for kind, count in zip(KINDS, counts)))
@@ -64,12 +65,14 @@ def print_counts(table):
 
 
 def pick(table, count, seed):
+    """Prints some rows by lot."""
     for row in random.Random(seed).sample(table, min(count, len(table))):
         function = f"{row['function']}: " if row["function"] else ""
         print(f"{row['crate']}: {function}{row['wrong behaviour']} (refused by {row['refused by']})")
 
 
 def write(table):
+    """Writes the table anew."""
     with TABLE.open("w", newline="") as file:
         writer = csv.DictWriter(file, COLUMNS, lineterminator="\n")
         writer.writeheader()

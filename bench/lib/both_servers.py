@@ -122,6 +122,7 @@ def data_of(world, wanted):
 
 
 def write_shapefiles(folder, data):
+    """Writes features as shapefiles, by their names."""
     for name, features in data.items():
         table = [
             {"type": "Feature", "geometry": {"type": kind, "coordinates": at}, "properties": dict([item])}
@@ -171,6 +172,7 @@ def write_mapfiles(folder, data):
 
 
 def free_port():
+    """A port that nothing listens on."""
     with socket.socket() as taken:
         taken.bind(("127.0.0.1", 0))
         return taken.getsockname()[1]
@@ -189,6 +191,7 @@ class Server:
         return sum(int((thread / "schedstat").read_text().split()[0]) for thread in threads) / 1e9
 
     def ask(self, query):
+        """The status, the type and the body of an answer."""
         self.connection.request("GET", "/wms?SERVICE=WMS&VERSION=1.3.0&" + query)
         answer = self.connection.getresponse()
         return answer.status, answer.getheader("Content-Type"), answer.read()
@@ -205,6 +208,7 @@ class Server:
         return (self.seconds() - before) / count * 1000
 
     def stop(self):
+        """Ends the server, and what stands before it."""
         for process in self.others:
             process.terminate()
             process.wait()
@@ -213,6 +217,7 @@ class Server:
 
 
 def wait_for(port):
+    """Waits until something listens on a port, at most ten seconds."""
     for _ in range(200):
         try:
             socket.create_connection(("127.0.0.1", port)).close()
@@ -223,6 +228,7 @@ def wait_for(port):
 
 
 def start_mapserver(folder):
+    """MapServer behind nginx, once both listen."""
     maps, port = free_port(), free_port()
     (folder / "mapserver.conf").write_text("CONFIG\nENV\nEND\nEND\n")
     environment = dict(os.environ, MAPSERVER_CONFIG_FILE=str(folder / "mapserver.conf"))
@@ -236,6 +242,7 @@ def start_mapserver(folder):
 
 
 def start_ours(program, folder, name):
+    """This server, once it listens."""
     words = [program, "serve", name, "--port", "0", "--admin-port", "0", "--workers", "1", "--idle", "60000"]
     process = subprocess.Popen(words, cwd=folder, stdout=subprocess.PIPE)
     found = ports_of(process.stdout.readline())

@@ -37,12 +37,14 @@ class Counting:
         self.program, self.folder = os.path.abspath(program), folder
 
     def path(self, name, content):
+        """Writes a file of the folder, and gives its path."""
         path = os.path.join(self.folder, name)
         with open(path, "w") as file:
             file.write(content)
         return path
 
     def instructions(self, mapfile, script):
+        """The instructions of a script on a map, and what it wrote."""
         words = ["valgrind", "--tool=callgrind", "--callgrind-out-file=/dev/null", self.program, "run", mapfile, script]
         done = subprocess.run(words, stdout=subprocess.PIPE, stderr=subprocess.PIPE, text=True)
         counted = re.search(r"Collected\s*:\s*(\d+)", done.stderr)

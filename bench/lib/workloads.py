@@ -48,6 +48,7 @@ class Bench:
         self.program, self.folder, self.workloads = os.path.abspath(program), folder, []
 
     def path(self, name, content):
+        """Writes a file of the folder, and gives its path."""
         path = os.path.join(self.folder, name)
         with open(path, "wb") as file:
             file.write(content if isinstance(content, bytes) else content.encode())
@@ -88,6 +89,7 @@ class Bench:
         self.workloads.append(Workload(f"{name}, {size[0]} by {size[1]}", count, ("run", path, full), ("run", path, bare)))
 
     def compare(self, name, path, layer, box, size, picture):
+        """Ends the script where the program draws another picture."""
         script = self.path("one.script", query(layer, box, size))
         _, body = self.written("run", path, script).split("\n", 1)
         pixels = bytes.fromhex(body.replace("\n", ""))[len(f"P6\n{size[0]} {size[1]}\n255\n") :]
@@ -140,6 +142,7 @@ def degrees(number):
 
 
 def query(layer, box, size):
+    """The line of a script that asks for a picture."""
     sides = ",".join(map(degrees, box))
     return (
         f"QUERY VERSION=1.3.0&REQUEST=GetMap&LAYERS={layer}&STYLES=&CRS=CRS:84&BBOX={sides}"

@@ -81,6 +81,7 @@ class Administrator:
         return self.ask(b"RETRY\n")
 
     def ask(self, sent):
+        """The answer to a command that is sent."""
         try:
             self.stream.sendall(sent)
             line = self.line()

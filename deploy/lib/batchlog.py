@@ -68,6 +68,7 @@ class Entry:
 
 
 def line_of(sequence, refused):
+    """The line of an entry's outcome; nothing where it has none yet."""
     if refused is not None:
         return f"REFUSED {refused}"
     return None if sequence is None else f"PUBLISHED {sequence}"

@@ -23,6 +23,7 @@ class Command:
 
 
 def table_of(path, standard_input):
+    """The bytes of a table, from a file or from standard input."""
     try:
         if path == "-":
             return standard_input.read()
@@ -99,6 +100,7 @@ def refusal(answer, commands, columns, program):
 
 
 def words_of(kind, command, columns, program):
+    """Why a command is refused, by the number of its kind."""
     if kind != 4 or command.table is None:
         return KINDS[kind]
     if not program:

@@ -49,6 +49,7 @@ class Note:
         return f"log number {self.number}, sequence {self.sequence}"
 
     def keep(self, **changes):
+        """Changes the note, in memory and on the disk."""
         for name, value in changes.items():
             setattr(self, name, value)
         with open(f"{self.path}.new", "w", encoding="utf-8") as file:

@@ -15,6 +15,7 @@ class Sizes:
         self.factor, self.font, self.images = 1, None, []
 
     def see(self, block, word, values):
+        """Takes over what a keyword says of the factor, the font and pixmaps."""
         key = f"{block} {word}"
         if key == "MAP CONFIG" and values[0].text == "WMS_SMOOTHING" and values[1].text in keywords.SMOOTHINGS.split():
             self.factor = int(values[1].text)

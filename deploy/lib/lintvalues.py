@@ -36,6 +36,7 @@ class Values:
         return f"{word} is in degrees: gdaltransform -s_srs {source} -t_srs EPSG:4326 gives them, or deploy/convert"
 
     def check_values(self, block, word, values):
+        """Whether the server reads the values of a keyword."""
         first, key = values[0], f"{block} {word}"
         bad = next((value for value in values if not value.is_value()), None)
         if bad and word != "EXPRESSION":
@@ -73,12 +74,14 @@ class Values:
             self.refused(values[1], f"CONFIG {name}", " or ".join(known))
 
     def check_count(self, value, word, least, most):
+        """Whether a value is a count within its bounds."""
         counted = mapfile.count(value.text)
         if counted is None or not least <= counted <= most:
             near = most if counted is not None and counted > most else least
             self.refused(value, word, f"a count from {least} to {most}", None if counted is None else f"write {near}")
 
     def check_extent(self, values):
+        """Whether four sides are degrees that have an area."""
         sides = [mapfile.millionths(value.text) for value in values]
         bad = next((i for i, side in enumerate(sides) if side is None or abs(side) > 1000), None)
         if bad is not None:
@@ -88,6 +91,7 @@ class Values:
             self.differs(at.line, "EXTENT has no area: write west, south, east and north")
 
     def check_colour(self, word, values):
+        """Whether values are a colour, and an opaque one."""
         taken = "'#rrggbb' or three counts from -1 to 255"
         if len(values) == 1:
             if not re.fullmatch("#[0-9A-Fa-f]{6}", values[0].text) or values[0].shape != "text":
@@ -101,6 +105,7 @@ class Values:
                 return
 
     def check_expression(self, token):
+        """Whether an expression is one that the server reads."""
         if token.shape == "word" and token.text.startswith("/"):
             instead = "write a list as {a,b}"
             if re.fullmatch(r"/\.[*+]?/", token.text):

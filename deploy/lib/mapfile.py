@@ -71,6 +71,7 @@ class Reader:
         self.tokens = [self.checked(token) for token in self.read()]
 
     def checked(self, token):
+        """A token, reported where the server doesn't read its bytes."""
         if token.shape != "word" and re.search(r"[\x00-\x08\x0b\x0e-\x1f\x7f]", token.text):
             self.differs(token.line, CONTROL)
         elif re.search(r"[\x00-\x1f\x7f]", token.text) and token.shape == "word":
@@ -82,6 +83,7 @@ class Reader:
         return token
 
     def take(self, end):
+        """The text up to a place, behind which reading goes on."""
         text = self.source[self.at : end]
         self.at = end
         self.line += text.count("\n")
@@ -100,6 +102,7 @@ class Reader:
         return Token(shape, text, line)
 
     def logic(self, line):
+        """The token of an expression in brackets."""
         depth, quote, at = 0, None, self.at
         while at < len(self.source):
             character = self.source[at]
@@ -116,6 +119,7 @@ class Reader:
         return Token("logic", self.take(len(self.source)), line)
 
     def read(self):
+        """The tokens of the source."""
         while self.at < len(self.source):
             character, line = self.source[self.at], self.line
             if character in " \t\r\n\f":
@@ -196,6 +200,7 @@ class Logic:
             raise NoLogic(self.at)
 
     def deeper(self, read):
+        """Reads what is nested, as deep as the server does."""
         self.depth += 1
         self.needs(self.depth <= self.DEEPEST)
         read()
@@ -206,16 +211,19 @@ class Logic:
         self.needs(self.takes(r"\)"))
 
     def either(self):
+        """Conditions with OR between them."""
         self.all()
         while self.takes(r"OR|\|\|"):
             self.all()
 
     def all(self):
+        """Conditions with AND between them."""
         self.part()
         while self.takes("AND|&&"):
             self.part()
 
     def part(self):
+        """One condition: a comparison, a bracket, or NOT of one."""
         if self.takes("NOT|!"):
             self.deeper(self.part)
         elif self.takes(r"\("):
@@ -226,6 +234,7 @@ class Logic:
             self.operand()
 
     def operand(self):
+        """An item, a text or a number."""
         if self.takes(self.OPERAND.pattern):
             return
         begin = self.at

@@ -14,12 +14,14 @@ class Missing(Exception):
 
 
 def free_port():
+    """A port that nothing listens on."""
     with socket.socket() as taken:
         taken.bind(("127.0.0.1", 0))
         return taken.getsockname()[1]
 
 
 def is_taken(port):
+    """Whether something listens on a port."""
     with socket.socket() as probe:
         probe.setsockopt(socket.SOL_SOCKET, socket.SO_REUSEADDR, 1)
         try:
@@ -42,6 +44,7 @@ class Process:
         return self.popen.poll()
 
     def until_listening(self, port):
+        """Waits until it listens on a port."""
         end = time.monotonic() + PATIENCE
         while time.monotonic() < end:
             if self.status() is not None:

@@ -169,6 +169,7 @@ def layers_of(source):
 
 
 def command(options, layer):
+    """The command that writes a layer as GeoJSON, a line a feature."""
     words = ["ogr2ogr", "-f", "GeoJSONSeq", "/vsistdout/", "-lco", "COORDINATE_PRECISION=15", "-lco", "RS=NO"]
     words += ["-t_srs", "OGC:CRS84", "-dim", "XY", "-nlt", "CONVERT_TO_LINEAR", "-preserve_fid"]
     if options.source_system:
@@ -314,6 +315,7 @@ def inline(features, fields, name, report):
 
 
 def unused(name, fields):
+    """A name that no field has."""
     while name in {field.lower() for field in fields}:
         name += "_"
     return name

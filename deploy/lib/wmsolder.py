@@ -89,6 +89,7 @@ def box_lines(layer):
 
 
 def layer_lines(layer):
+    """The lines of a layer in a document of 1.1.1."""
     yield f"<Layer queryable=\"{layer.get('queryable', '0')}\">"
     name = text_at(layer, "Name", None)
     if name is not None:
@@ -107,6 +108,7 @@ def layer_lines(layer):
 
 
 def operation_lines(name, formats, address):
+    """The lines of an operation in a document of 1.1.1."""
     yield f"<{name}>"
     yield from (elements("Format", one) for one in formats)
     yield f'<DCPType><HTTP><Get><OnlineResource xmlns:xlink="http://www.w3.org/1999/xlink" xlink:type="simple"{attributes(**{"xlink:href": address})}/></Get></HTTP></DCPType>'

@@ -79,6 +79,7 @@ def start(program, folder, count):
 
 
 def seconds_of(pid):
+    """The seconds of processor that a process took."""
     with open(f"/proc/{pid}/stat") as file:
         fields = file.read().rsplit(")", 1)[1].split()
     return (int(fields[11]) + int(fields[12])) / os.sysconf("SC_CLK_TCK")

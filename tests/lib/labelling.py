@@ -61,6 +61,7 @@ class Label:
     is_forced: bool = False
 
     def words(self):
+        """The block of a mapfile."""
         colour = "%d %d %d" % self.colour if self.colour else "-1 -1 -1"
         outline = "OUTLINECOLOR %d %d %d\n" % self.outline if self.outline else ""
         more = ("PARTIALS TRUE\n" if self.is_partial else "") + ("FORCE TRUE\n" if self.is_forced else "")

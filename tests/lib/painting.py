@@ -84,6 +84,7 @@ class Picture:
         self.stroke(zip(points, points[1:]), points, colour, width)
 
     def stroke(self, segments, points, colour, width):
+        """A line's segments, and a square at each of its points."""
         # The rows that flat segments cover in each column, as bits: a wide line covers most of them many times.
         columns = [0] * self.width
         for a, b in segments:
@@ -96,6 +97,7 @@ class Picture:
             self.square_at(point, width, colour)
 
     def segment(self, a, b, colour, width, columns):
+        """One segment: the spans of a steep one, and of a flat one bits of the columns."""
         flat = abs(b[0] - a[0]) >= abs(b[1] - a[1])
         if not flat:
             a, b = (a[1], a[0]), (b[1], b[0])
@@ -114,6 +116,7 @@ class Picture:
                 self.span(i, last - width + 1, last + 1, colour)
 
     def square_at(self, point, size, colour):
+        """A square round a device point."""
         i, j = point[0] // 16, point[1] // 16
         before, after = (size - 1) // 2, size // 2
         for row in range(j - before, j + after + 1):

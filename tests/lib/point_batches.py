@@ -31,6 +31,7 @@ class State:
         self.points, self.is_on = points, is_on
 
     def picture(self):
+        """The answer to the picture that is asked for."""
         if not self.is_on:
             return NO_LAYER
         pixels = [SQUARE if column < 8 and row >= 8 else WHITE for row in range(SIDE) for column in range(SIDE)]

@@ -60,6 +60,7 @@ class Launcher:
         self.sink, self.source = os.fdopen(self.ask, "wb"), os.fdopen(self.answer, "rb")
 
     def start(self, *words):
+        """Runs a command: its status and what it took."""
         pickle.dump(words, self.sink)
         self.sink.flush()
         status, used = pickle.load(self.source)

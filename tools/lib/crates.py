@@ -47,6 +47,7 @@ class Crate:
         return re.search(rf"^pub use [^;]*\b{name}\b[^;]*;", self.files.get("lib.rt", ""), re.M) is not None
 
     def is_variant(self, owner, name):
+        """Whether a type has a variant or a field of that name."""
         if not declares(self.code, owner):
             return False
         body = re.search(rf"\b(?:enum|struct) {owner}\b.*?^}}", self.code, re.M | re.S)

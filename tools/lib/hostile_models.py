@@ -54,6 +54,7 @@ def bad_byte(text):
 
 # Mapfiles: docs/MAPFILE.md, Tokens
 def end_of_logic(source, at):
+    """Where the brackets that begin an expression are closed; nothing where they aren't."""
     depth = 0
     while at < len(source):
         byte = source[at : at + 1]
@@ -111,6 +112,7 @@ class Logic:
         self.text, self.at = text, 0
 
     def take(self, pattern):
+        """What stands next, if it is this, behind spaces."""
         found = re.compile(rb"[ \t\n\r]*(?:" + pattern + rb")", re.I).match(self.text, self.at)
         if found:
             self.at = found.end()
@@ -123,18 +125,21 @@ class Logic:
         return bool(self.take(rb"\(")) and self.one_of() and bool(self.take(rb"\)"))
 
     def one_of(self):
+        """Conditions with OR between them."""
         good = self.all_of()
         while good and self.take(rb"OR|\|\|"):
             good = self.all_of()
         return good
 
     def all_of(self):
+        """Conditions with AND between them."""
         good = self.part()
         while good and self.take(rb"AND|&&"):
             good = self.part()
         return good
 
     def part(self):
+        """One condition: a comparison, a bracket, or NOT of one."""
         if self.take(rb"NOT|!"):
             return self.part()
         if re.compile(rb"[ \t\n\r]*\(").match(self.text, self.at):
@@ -161,6 +166,7 @@ class Mapfile:
         self.tokens, self.names = tokens(source), []
 
     def read(self):
+        """Reads a whole mapfile."""
         shape, text, line = next(self.tokens)
         self.must(shape != "end", 4, line)
         self.must(shape == "word" and text.upper() == b"MAP", 2, line)
@@ -173,17 +179,20 @@ class Mapfile:
             raise Fault(kind, line)
 
     def value(self):
+        """A token that is no END."""
         shape, text, line = next(self.tokens)
         self.must(shape != "end", 4, line)
         self.must(shape != "word" or text.upper() != b"END", 5, line)
         return shape, text, line
 
     def text(self):
+        """A word or a quoted text, with its line."""
         shape, text, line = self.value()
         self.must(shape in ("word", "text"), 3, line)
         return text, line
 
     def block(self, name):
+        """Reads a block up to its END."""
         given = {}
         while True:
             shape, text, line = next(self.tokens)
@@ -195,6 +204,7 @@ class Mapfile:
             given[word] = self.keyword(name, word)
 
     def close(self, name, given, line):
+        """What an END wants of its block."""
         if name == "LAYER":
             self.must("NAME" in given and "TYPE" in given, 5, line)
             text, line = given["NAME"]
@@ -203,6 +213,7 @@ class Mapfile:
         self.must(name != "FEATURE" or "POINTS" in given, 5, line)
 
     def keyword(self, name, word):
+        """Reads what follows a keyword."""
         if word in self.KEYWORDS:
             return self.block(word)
         if word == "EXTENT":
@@ -223,11 +234,13 @@ class Mapfile:
         return -2 if found is None else (1 if found >= 0 else -1) * ((abs(found) + 500_000) // 1_000_000)
 
     def coordinate(self, text, line):
+        """A number of at most 1,000."""
         found = number(text, 1000)
         self.must(found is not None, 3, line)
         return found
 
     def extent(self):
+        """Four sides, the last two beyond the first two."""
         sides = []
         for index in range(4):
             text, line = self.text()
@@ -235,6 +248,7 @@ class Mapfile:
             self.must(index < 2 or sides[index] > sides[index - 2], 3, line)
 
     def points(self):
+        """Pairs of coordinates up to an END, one at least."""
         pairs = 0
         while True:
             shape, text, line = next(self.tokens)
@@ -247,11 +261,13 @@ class Mapfile:
             pairs += 1
 
     def rule(self):
+        """What a class takes: no regular expression, and no expression that isn't whole."""
         shape, text, line = self.value()
         self.must(shape != "logic" or Logic(text).is_whole(), 9, line)
         self.must(shape != "word" or not text.startswith(b"/"), 9, line)
 
     def colour(self):
+        """A colour by six digits or by three counts."""
         shape, text, line = self.value()
         if shape == "text" and re.fullmatch(rb"#[0-9a-fA-F]{6}", text):
             return
@@ -284,6 +300,7 @@ def records(source):
 
 
 def is_text(field):
+    """Whether bytes are UTF-8."""
     try:
         field.decode()
     except UnicodeDecodeError:
@@ -292,6 +309,7 @@ def is_text(field):
 
 
 def table(source, limit=3):
+    """Reads a table of points with so many rows at most."""
     rows = list(records(source))
     if not rows:
         raise Fault(1, 1)
@@ -313,6 +331,7 @@ def table(source, limit=3):
 
 # Pixmaps: docs/FILES.md, Pixmaps. Kinds are 1 Magic, 2 Header, 3 Limit and 4 Short
 def pixmap(source):
+    """Reads a pixmap."""
     if not source.startswith(b"P6"):
         raise Fault(1, 0)
     blank = rb"[ \t\n\r\x0b\x0c]"

@@ -44,6 +44,7 @@ COLUMN_NAMES = "| Look for | Rule or promise | Definition | Kept by |\n|---|---|
 
 
 def rows():
+    """The rows of the table, by their columns."""
     with TABLE.open(newline="") as file:
         reader = csv.DictReader(file)
         assert reader.fieldnames == COLUMNS, f"the columns are {reader.fieldnames}"
@@ -89,6 +90,7 @@ def document(name):
 
 
 def link(page):
+    """A page and its heading, as the page of rules links them."""
     name, _, heading = page.partition(": ")
     anchor = re.sub(r"[^\w\- ]", "", heading.lower()).replace(" ", "-")
     target = f"#{anchor}" if name == PAGE.stem else f"{relative(document(name))}#{anchor}"
@@ -126,6 +128,7 @@ def shown(row):
 
 
 def page():
+    """The page that the table gives."""
     head = HEAD.replace("RULES_CSV", relative(TABLE)).replace("PLANTED_CSV", relative(mutants.TABLE))
     parts, subject = [head.replace("VERIFICATION_MD", relative(document("VERIFICATION")))], None
     for row in rows():
@@ -137,6 +140,7 @@ def page():
 
 
 def found_definition(words, crates):
+    """A module of specs/, and definitions in it."""
     crate, _, module = words[0].partition("/specs/")
     is_module = crate in crates and module in crates[crate].modules
     yield f"the module {words[0]}", is_module
@@ -145,6 +149,7 @@ def found_definition(words, crates):
 
 
 def found_call(words, remark, crates):
+    """A call and its clauses."""
     crate, _, name = words[0].partition("::")
     is_there = crate in crates and crates[crate].has(name)
     yield f"the call {words[0]}", is_there
@@ -155,6 +160,7 @@ def found_call(words, remark, crates):
 
 
 def found_code(words, row, crates):
+    """A file of src/, and what it declares."""
     crate, _, file = words[0].partition("/src/")
     is_file = crate in crates and f"{file}.rt" in crates[crate].files
     yield f"the file {words[0]}.rt", is_file
@@ -178,6 +184,7 @@ def is_planted(row):
 
 
 def found_mutants(row, crates):
+    """The edits of a row, and whether planted.csv has a mutant of it."""
     named = [words for column in ("definition", "kept by", "code") for words in named_in(row, column)]
     edits = set().union(*(crates[name].edits for name in crates_of(named) if name in crates))
     for (mutant, *_), _ in entries(row["mutant"]):

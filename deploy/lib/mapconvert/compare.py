@@ -17,6 +17,7 @@ class NoPicture(Exception):
 
 
 def by_mapserver(map, layers, box, width, height):
+    """A picture of MapServer's."""
     request = mapscript.OWSRequest()
     values = {
         "SERVICE": "WMS", "VERSION": "1.3.0", "REQUEST": "GetMap", "LAYERS": ",".join(layers), "STYLES": "", "CRS": "CRS:84",
@@ -110,6 +111,7 @@ def views(extent, anchors, count):
 
 
 def side_by_side(one, other, both):
+    """Two pictures, and what differs, in one."""
     whole = Image.new("RGB", (3 * one.width + 20, one.height), (128, 128, 128))
     for number, picture in enumerate((one, other, both.convert("RGB"))):
         whole.paste(picture, (number * (one.width + 10), 0))
@@ -117,6 +119,7 @@ def side_by_side(one, other, both):
 
 
 def without_labels(map):
+    """Takes the labels out of a map."""
     for number in range(map.numlayers):
         layer = map.getLayer(number)
         for at in range(layer.numclasses):
@@ -164,6 +167,7 @@ def styles_of_polygons(map):
 
 
 def without_opacity(map):
+    """Makes all of a map opaque."""
     for layer, style in each_style(map):
         layer.setOpacity(100)
         style.opacity = 100
@@ -199,6 +203,7 @@ class Source:
         self.path, self.made = path, made
 
     def map(self, changes=()):
+        """A map of MapServer's that answers everything, with some changes."""
         map = mapscript.mapObj(self.path)
         map.applyDefaultSubstitutions()
         map.scalebar.status = map.legend.status = mapscript.MS_OFF
@@ -214,6 +219,7 @@ class Source:
         return map
 
     def open(self, map, layer, number):
+        """Lets a layer be asked for, by the name that it has in the mapfile that was made."""
         layer.status = mapscript.MS_OFF
         for key in ("ows_enable_request", "wms_enable_request"):
             layer.metadata.set(key, "*")

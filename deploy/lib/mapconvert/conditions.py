@@ -91,6 +91,7 @@ class Condition:
         return sign
 
     def truth(self, made):
+        """Whether a value holds."""
         if isinstance(made, str):
             raise Unknown("a text alone is no condition")
         return bool(made)
@@ -102,6 +103,7 @@ class Condition:
         return made
 
     def either(self):
+        """Conditions with || between them."""
         made = self.both()
         while self.takes("||"):
             # each side is read, whatever the other is
@@ -110,6 +112,7 @@ class Condition:
         return made
 
     def both(self):
+        """Conditions with && between them."""
         made = self.negated()
         while self.takes("&&"):
             sides = self.truth(made), self.truth(self.negated())
@@ -117,11 +120,13 @@ class Condition:
         return made
 
     def negated(self):
+        """A condition, or the opposite of one."""
         if self.takes("!"):
             return not self.truth(self.negated())
         return self.comparison()
 
     def comparison(self):
+        """Two sums with a sign between them, or one alone."""
         made = self.sum()
         sign = self.takes(*COMPARED, "=*", "~", "~*", "in")
         if sign is None:
@@ -139,6 +144,7 @@ class Condition:
         return COMPARED[sign](of_c(made), of_c(other)) if isinstance(made, str) else COMPARED[sign](made, other)
 
     def sum(self):
+        """Products with + and - between them."""
         made = self.product()
         while sign := self.takes("+", "-"):
             other = self.product()
@@ -149,6 +155,7 @@ class Condition:
         return made
 
     def product(self):
+        """Parts with * and / between them."""
         made = self.part()
         while sign := self.takes("*", "/"):
             one, other = self.of(float, made), self.of(float, self.part())
@@ -158,6 +165,7 @@ class Condition:
         return made
 
     def part(self):
+        """A bracket, a text, an item, a number or a call."""
         if self.takes("("):
             return self.closed(self.either())
         if self.next == len(self.tokens):
@@ -183,16 +191,19 @@ class Condition:
         return text
 
     def item(self, name):
+        """The value of an item."""
         if name.lower() not in self.values:
             raise Unknown(f"[{name}] is no item")
         return self.values[name.lower()]
 
     def number(self, value):
+        """A text of a feature as a number."""
         if STRANGE.match(value):
             raise Unknown("a value isn't read as a number")
         return number_of(value)
 
     def call(self, name):
+        """What a function gives of its arguments."""
         given = [self.sum()]
         while self.takes(","):
             given.append(self.sum())
@@ -202,6 +213,7 @@ class Condition:
         return self.closed(function(*given))
 
     def closed(self, made):
+        """A value behind which a bracket is closed."""
         if not self.takes(")"):
             raise Unknown("a bracket isn't closed")
         return made

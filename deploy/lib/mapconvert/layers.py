@@ -77,6 +77,7 @@ class LayerWriter:
             self.report.shows(self.place("EXTENT"), f"EXTENT: {count:,} of {len(self.features):,} features reach beyond it, and are drawn in views that don't meet it")
 
     def say_what_was_read(self, reading):
+        """Reports which features aren't there, and why."""
         if reading.hidden:
             self.report.notes(self.place(), f"{reading.hidden:,} features without a CLASS that is drawn aren't there")
         if reading.mask:
@@ -132,6 +133,7 @@ class LayerWriter:
     # Blocks.
 
     def block(self, kind, rule, styles, label, low, high, title=None):
+        """The lines of a CLASS."""
         lines = ["    CLASS"]
         # They have no effect on the map, and are the title of the class in the viewer's legend.
         lines += [f"      NAME {quoted(kind.given.name)}"] if kind.given.name else []
@@ -196,6 +198,7 @@ class LayerWriter:
         return lines
 
     def feature_blocks(self, items, with_texts):
+        """The lines of the features, with their texts where these are told by feature."""
         for feature in self.features:
             if self.classes.is_computed:
                 feature.values[COMPUTED] = self.classes.name(feature.classes)

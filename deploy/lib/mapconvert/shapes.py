@@ -79,6 +79,7 @@ def coordinate(number):
 
 
 def places_of(line, page):
+    """The vertices of a line, in degrees."""
     places = []
     for at in range(line.numpoints):
         point = line.get(at)
@@ -151,6 +152,7 @@ class Source:
         self.layer.close()
 
     def shapes(self):
+        """The shapes of the source that can be brought into degrees."""
         for shape in self.raw():
             if self.change is None or self.change.bring(shape):
                 yield shape

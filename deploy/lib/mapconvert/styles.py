@@ -10,6 +10,7 @@ WIDEST = 32
 
 
 def colour_of(colour):
+    """The words of a colour; nothing where it isn't seen."""
     if colour.red < 0 or colour.alpha == 0:
         return None
     return f"{colour.red} {colour.green} {colour.blue}"
@@ -116,6 +117,7 @@ class Styles:
                 self.report.left_out(self.place(number, at), why)
 
     def point(self, number, at, style):
+        """The words of a point's style: its mark as a pixmap."""
         symbol = self.marks.name_of(style, style.symbolname)
         if symbol is None:
             return None
@@ -127,12 +129,14 @@ class Styles:
         return [f'SYMBOL "{symbol}"']
 
     def width(self, number, at, width):
+        """A width that the server has."""
         kept = pixels(width, WIDEST)
         if kept != width:
             self.report.changed(self.place(number, at, "WIDTH"), f"the width {width:g} is {kept}")
         return kept
 
     def line(self, number, at, style):
+        """The words of a line's style; nothing where it draws none."""
         colour = colour_of(style.color)
         if style.symbol and style.gap != 0:
             self.report.left_out(self.place(number, at, "GAP"), "GAP: no marks along a line")
@@ -145,6 +149,7 @@ class Styles:
         return None if colour is None else (colour, width, at)
 
     def casing(self, at, style):
+        """The colour and the whole width of an outline beside a line; nothing without one."""
         colour = colour_of(style.outlinecolor)
         if colour is None or style.outlinewidth <= 0 or style.symbol and style.gap != 0:
             return None

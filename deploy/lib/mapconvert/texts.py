@@ -28,6 +28,7 @@ def commify(value):
 
 
 def formatted(value, form):
+    """A number by a format."""
     try:
         return text_of(form) % number_of(value)
     except (TypeError, ValueError) as why:
@@ -35,6 +36,7 @@ def formatted(value, form):
 
 
 def rounded(value, step):
+    """A number rounded to a step, a half away from zero."""
     step = number_of(step)
     if step == 0:
         raise NoText("round takes a step other than 0")
@@ -66,6 +68,7 @@ class Expression:
             at = found.end()
 
     def value(self, values):
+        """What it gives for the values of a feature."""
         self.values, self.next = values, 0
         made = self.sum()
         if self.next < len(self.tokens):
@@ -81,6 +84,7 @@ class Expression:
         return text
 
     def sum(self):
+        """Products with + and - between them."""
         made = self.product()
         while sign := self.takes("+-"):
             other = self.product()
@@ -91,6 +95,7 @@ class Expression:
         return made
 
     def product(self):
+        """Parts with * and / between them."""
         made = self.part()
         while sign := self.takes("*/"):
             other = number_of(self.part())
@@ -100,6 +105,7 @@ class Expression:
         return made
 
     def part(self):
+        """A bracket, a text, an item, a number or a call."""
         if self.takes("-"):
             return -number_of(self.part())
         if self.takes("("):
@@ -120,6 +126,7 @@ class Expression:
         raise NoText(f"{text} isn't read there")
 
     def call(self, name):
+        """What a function gives of its arguments."""
         given = [self.sum()]
         while self.takes(","):
             given.append(self.sum())
@@ -129,6 +136,7 @@ class Expression:
         return self.closed(function(*given))
 
     def closed(self, made):
+        """A value behind which a bracket is closed."""
         if not self.takes(")"):
             raise NoText("a bracket isn't closed")
         return made
