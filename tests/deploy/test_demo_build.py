@@ -15,6 +15,8 @@ sys.path.insert(0, str(pathlib.Path(__file__).resolve().parents[1] / "lib"))
 import loading
 
 build = loading.script("demo/build")
+# which demo/build has on the path of its modules
+import sources
 CRATES = """# Ground
 base: thiserror
 apart: base
@@ -33,8 +35,9 @@ class Sources(unittest.TestCase):
         self.addCleanup(folder.cleanup)
         self.top = folder.name
         built = os.path.join(self.top, "crates", "mapservd", "out", "mapservd")
-        for name, value in (("TOP", self.top), ("OUT", os.path.join(self.top, "demo", "out")), ("BUILT", built), ("DIGEST", built + ".sources")):
-            patch = mock.patch.object(build, name, value)
+        given = ((sources, "TOP", self.top), (build, "OUT", os.path.join(self.top, "demo", "out")), (sources, "BUILT", built), (sources, "DIGEST", built + ".sources"))
+        for module, name, value in given:
+            patch = mock.patch.object(module, name, value)
             patch.start()
             self.addCleanup(patch.stop)
         self.write("crates.txt", CRATES)
@@ -50,24 +53,24 @@ class Sources(unittest.TestCase):
         return path
 
     def digest(self):
-        return build.digest_of(build.crates())
+        return sources.digest_of(sources.crates())
 
 
 class Crates(Sources):
     def test_those_that_the_program_stands_on_are_found(self):
-        self.assertEqual(build.crates(), {"base": [], "middle": ["base"], "side": ["base"], "mapservd": ["middle", "side"]})
+        self.assertEqual(sources.crates(), {"base": [], "middle": ["base"], "side": ["base"], "mapservd": ["middle", "side"]})
 
     def test_a_chain_weighs_what_stands_above_it_too(self):
         self.write("crates/side/specs/S.antt", "x" * 7)
         self.write("crates/side/proofs/P.antt", "x" * 3)
         self.write("crates/side/must-fail/a.edit", "x" * 900)
-        self.assertEqual(build.chains(build.crates()), {"mapservd": 5, "side": 65, "middle": 45, "base": 75})
+        self.assertEqual(build.chains(sources.crates()), {"mapservd": 5, "side": 65, "middle": 45, "base": 75})
 
     def test_a_copy_has_the_sources_of_these_alone(self):
         self.write("crates/side/out/kept", "x")
         self.write("crates/side/must-fail/a.edit", "x")
         folder = os.path.join(self.top, "copy")
-        build.copy(build.crates(), folder)
+        build.copy(sources.crates(), folder)
         with open(os.path.join(folder, "crates.txt"), encoding="utf-8") as file:
             self.assertEqual([line.partition(":")[0] for line in file], ["base", "middle", "side", "mapservd"])
         self.assertEqual(sorted(os.listdir(os.path.join(folder, "crates"))), ["base", "mapservd", "middle", "side"])
@@ -76,11 +79,11 @@ class Crates(Sources):
     def test_a_copy_that_stays_has_the_sources_of_today_and_what_rt_keeps(self):
         folder = os.path.join(self.top, "copy")
         self.write("crates/side/src/old.rt", "x")
-        build.copy(build.crates(), folder)
+        build.copy(sources.crates(), folder)
         kept = self.write("copy/crates/side/out/incremental/a", "kept")
         os.remove(os.path.join(self.top, "crates/side/src/old.rt"))
         self.write("crates/side/src/new.rt", "y")
-        build.copy(build.crates(), folder)
+        build.copy(sources.crates(), folder)
         self.assertEqual(sorted(os.listdir(os.path.join(folder, "crates/side/src"))), ["lib.rt", "new.rt"])
         with open(kept, encoding="utf-8") as file:
             self.assertEqual(file.read(), "kept")
@@ -105,14 +108,14 @@ class Digests(Sources):
         self.assertEqual(self.digest(), before)
 
     def test_it_says_whether_the_program_is_built(self):
-        below = build.crates()
-        self.assertFalse(build.is_built(below))
+        below = sources.crates()
+        self.assertFalse(sources.is_built(below))
         os.chmod(self.write("crates/mapservd/out/mapservd", "program"), 0o755)
-        self.assertFalse(build.is_built(below))
+        self.assertFalse(sources.is_built(below))
         self.write("crates/mapservd/out/mapservd.sources", self.digest() + "\n")
-        self.assertTrue(build.is_built(below))
+        self.assertTrue(sources.is_built(below))
         self.write("crates/base/src/lib.rt", "changed")
-        self.assertFalse(build.is_built(below))
+        self.assertFalse(sources.is_built(below))
 
 
 class Statements(Sources):
@@ -123,7 +126,7 @@ class Statements(Sources):
         with mock.patch.dict(os.environ, {"PATH": os.path.dirname(rt) + ":" + os.environ["PATH"], "RT_JOBS": "1"}):
             with contextlib.redirect_stdout(io.StringIO()) as said:
                 os.makedirs(build.OUT)
-                failed = build.build_by_statements(build.crates())
+                failed = build.build_by_statements(sources.crates())
         return said.getvalue().splitlines(), failed
 
     def test_each_crate_that_is_done_is_named_and_the_program_is_taken(self):
@@ -131,29 +134,29 @@ class Statements(Sources):
 echo "base proved"; echo "rt: side is kept: an earlier run proved it"; echo "fn a::b: proved"
 mkdir -p crates/mapservd/out; echo built > crates/mapservd/out/mapservd""")
         self.assertEqual((said, failed), (["1 of 4: base", "2 of 4: side, proved before"], None))
-        with open(build.BUILT, encoding="utf-8") as file:
+        with open(sources.BUILT, encoding="utf-8") as file:
             self.assertEqual(file.read(), "built\n")
 
     def test_a_program_that_runs_stays_as_it_is(self):
         self.write("crates/mapservd/out/mapservd", "old")
-        with open(build.BUILT, encoding="utf-8") as running:
+        with open(sources.BUILT, encoding="utf-8") as running:
             self.prove("mkdir -p crates/mapservd/out; echo built > crates/mapservd/out/mapservd")
             self.assertEqual(running.read(), "old")
-        self.assertEqual(os.listdir(os.path.dirname(build.BUILT)), ["mapservd"])
+        self.assertEqual(os.listdir(os.path.dirname(sources.BUILT)), ["mapservd"])
 
     def test_what_rt_wrote_is_kept_where_it_fails(self):
         said, failed = self.prove("echo refused; exit 1")
         self.assertEqual(said, [])
         with open(failed, encoding="utf-8") as file:
             self.assertEqual(file.read(), "refused\n")
-        self.assertFalse(os.path.exists(build.BUILT))
+        self.assertFalse(os.path.exists(sources.BUILT))
         self.assertEqual(os.listdir(build.OUT), ["log"])
 
 
 class Orders(Sources):
     def building(self, fails=()):
         """The order in which one job builds, and the log of the crate that failed."""
-        building, order = build.Building(build.crates(), [self.top]), []
+        building, order = build.Building(sources.crates(), [self.top]), []
 
         def one(name, folder):
             order.append(name)
@@ -172,7 +175,7 @@ class Orders(Sources):
         self.assertEqual(self.building(["side"])[:2], (["base", "side"], "log.side"))
 
     def test_the_time_that_is_left_is_by_what_was_built(self):
-        building = build.Building(build.crates(), [self.top])
+        building = build.Building(sources.crates(), [self.top])
         with mock.patch.object(build.time, "time", lambda: building.begun + 600):
             self.assertEqual(building.time_left(), "")
             # 10 of 105 bytes are less than a tenth, 55 of them took ten minutes
@@ -185,7 +188,7 @@ class Orders(Sources):
 
     def test_a_library_is_linked_for_the_other_jobs(self):
         other = os.path.join(self.top, "other")
-        building = build.Building(build.crates(), [self.top, other])
+        building = build.Building(sources.crates(), [self.top, other])
         kept = self.write("other/crates/base/out/rlib/a/b", "x")
         self.write("crates/base/out/rlib/older", "x")
         building.hand_on("base", other)

@@ -4,15 +4,13 @@
 Two servers are played, one slow. Eight clients ask without a pause, half of them over kept connections, while the front goes
 over from the first to the second: each request has to be answered whole, by the first only before, and with the mark of an
 unproved program only then. After it no request may come to the first one, also over connections from before. And the digest
-by which demo/build knows whether the program is built must not heed times. It ends with 1 where something is otherwise.
+by which demo/sources.py knows whether the program is built must not heed times. It ends with 1 where something is otherwise.
 
 Gate: 10 s
 """
 import asyncio
 import http.client
 import http.server
-import importlib.machinery
-import importlib.util
 import os
 import pathlib
 import shutil
@@ -26,6 +24,7 @@ sys.dont_write_bytecode = True
 sys.path.insert(0, str(TOP / "demo"))
 
 import front
+import sources
 
 CLIENTS, SECONDS = 8, 3
 BODY = 300_000
@@ -119,34 +118,26 @@ def try_front():
     print(f"front_goes_over: {len(answers)} requests, {sum(who == 'u' for _, who, _ in answers)} before")
 
 
-def load_build():
-    loader = importlib.machinery.SourceFileLoader("build", str(TOP / "demo" / "build"))
-    build = importlib.util.module_from_spec(importlib.util.spec_from_loader("build", loader))
-    loader.exec_module(build)
-    return build
-
-
 def try_digest():
     """A copy with other times is built; one with a changed byte, or with another program's name, isn't."""
-    build = load_build()
     with tempfile.TemporaryDirectory() as name:
-        build.TOP = name
+        sources.TOP = name
         source = os.path.join(name, "crates", "a", "src")
         os.makedirs(source)
         for path in ("crates.txt", "HANDLES", "crates/a/src/lib.rt"):
             pathlib.Path(name, path).write_text(f"{path}\n")
-        build.BUILT = os.path.join(name, "program")
-        build.DIGEST = build.BUILT + ".sources"
-        shutil.copy("/bin/true", build.BUILT)
-        if build.is_built(["a"]):
+        sources.BUILT = os.path.join(name, "program")
+        sources.DIGEST = sources.BUILT + ".sources"
+        shutil.copy("/bin/true", sources.BUILT)
+        if sources.is_built(["a"]):
             yield "a program without a digest counts as built"
-        pathlib.Path(build.DIGEST).write_text(build.digest_of(["a"]) + "\n")
+        pathlib.Path(sources.DIGEST).write_text(sources.digest_of(["a"]) + "\n")
         os.utime(os.path.join(source, "lib.rt"), (2_000_000_000, 2_000_000_000))
-        if not build.is_built(["a"]):
+        if not sources.is_built(["a"]):
             yield "a later time of a source has the program built again"
         pathlib.Path(source, "lib.rt").write_text("else\n")
         os.utime(os.path.join(source, "lib.rt"), (1, 1))
-        if build.is_built(["a"]):
+        if sources.is_built(["a"]):
             yield "a changed source with an old time counts as built"
 
 
