@@ -12,7 +12,6 @@ It ends with 1 where something is wrong, and with 77 where the packages aren't t
 
 Gate: 40 s
 """
-import importlib.machinery
 import importlib.util
 import os
 import pathlib
@@ -29,6 +28,7 @@ sys.path.insert(0, str(TOP / "deploy" / "lib"))
 sys.path.insert(0, str(pathlib.Path(__file__).resolve().parents[1] / "lib"))
 
 import keywords
+import loading
 import told
 
 # What the map of a mapfile has to have, and what it must not have.
@@ -73,13 +73,6 @@ class Checks:
         self.wrong += not is_right
         if not is_right:
             print(words)
-
-
-def load_convert():
-    loader = importlib.machinery.SourceFileLoader("convert", str(CONVERT))
-    convert = importlib.util.module_from_spec(importlib.util.spec_from_loader("convert", loader))
-    loader.exec_module(convert)
-    return convert
 
 
 def converted(convert, path, folder):
@@ -207,7 +200,7 @@ END
 def try_wide_mark(folder, checks):
     """A mark of 20 by 5 pixels is whole: its pixmap has both its ends, and has it in its middle."""
     (folder / "wide.map").write_text(WIDE)
-    _, made = converted(load_convert(), folder / "wide.map", folder / "wide")
+    _, made = converted(loading.script("deploy/convert"), folder / "wide.map", folder / "wide")
     found = re.match(rb"P6\n(\d+) (\d+)\n255\n", made.get("bar1.ppm", b""))
     size = tuple(map(int, found.groups())) if found else None
     # the point stands in the middle of a pixel, so that an end may reach into one more
@@ -304,7 +297,7 @@ def try_labels(folder, checks):
     """A feature has the text of a label where MapServer labels it, and nowhere else; where a rule isn't read here it has none."""
     if not os.path.exists("/usr/share/fonts/truetype/dejavu/DejaVuSans.ttf"):
         return print("conversions: skipped: rules of labels, as fonts-dejavu-core is missing")
-    convert, path = load_convert(), folder / "rules.map"
+    convert, path = loading.script("deploy/convert"), folder / "rules.map"
     for rule, wanted in RULES.items():
         path.write_text(LABELLED_MAP.format(maps=MAPS, layer="", label=f"EXPRESSION {rule}"))
         report, made = converted(convert, path, folder / "rules")
@@ -340,7 +333,7 @@ def is_told(convert, block, word, kind, base, folder):
 
 
 def try_keywords(folder, checks):
-    convert, bases = load_convert(), {}
+    convert, bases = loading.script("deploy/convert"), {}
     from mapconvert import fonts
 
     def write_font(map, alias, size, folder, times):

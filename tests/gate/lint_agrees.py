@@ -10,13 +10,16 @@ the two disagree.
 Gate: PROGRAM; 20 s
 """
 import glob
-import importlib.machinery
-import importlib.util
 import os
+import pathlib
 import re
 import subprocess
 import sys
 import tempfile
+
+sys.path.insert(0, str(pathlib.Path(__file__).resolve().parents[1] / "lib"))
+
+import loading
 
 TOP = os.path.dirname(os.path.dirname(os.path.dirname(os.path.realpath(__file__))))
 OURS = ["demo/*.map", "crates/replay/data/*/map"]
@@ -184,15 +187,6 @@ def looks_into_includes(lint):
     return found == [[2], [2, 3], [2]]
 
 
-def load_lint():
-    path = os.path.join(TOP, "deploy", "lint")
-    loader = importlib.machinery.SourceFileLoader("lint", path)
-    lint = importlib.util.module_from_spec(importlib.util.spec_from_loader("lint", loader))
-    sys.dont_write_bytecode = True
-    loader.exec_module(lint)
-    return lint
-
-
 class Count:
     """How many mapfiles were tried, and on how many lint is wrong."""
 
@@ -240,7 +234,7 @@ def try_made(program, lint, made, count):
 def main():
     if len(sys.argv) < 2:
         sys.exit(__doc__.split("\n")[0])
-    program, lint, count = os.path.abspath(sys.argv[1]), load_lint(), Count()
+    program, lint, count = os.path.abspath(sys.argv[1]), loading.script("deploy/lint"), Count()
     paths = [path for pattern in OURS for path in sorted(glob.glob(os.path.join(TOP, pattern)))]
     paths += [path for pattern in DEBIAN for path in sorted(glob.glob(pattern))] + sys.argv[2:]
     for path in paths:

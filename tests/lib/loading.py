@@ -1,4 +1,4 @@
-"""What the unit tests share: loading a script whose name has no ending, and stand-ins for packages that aren't installed."""
+"""What the tests of scripts share: loading a script whose name has no ending, and stand-ins for packages that aren't installed."""
 import importlib.machinery
 import importlib.util
 import os
