@@ -59,6 +59,7 @@ class Front:
             writer.close()
 
     async def answer(self, head):
+        """The answer to a request of the program that is behind, or of the next one where that went."""
         while True:
             port, is_proved = self.behind, self.is_proved
             if port is None:
@@ -94,6 +95,7 @@ class Front:
 
 
 def free_port():
+    """A port that nothing listens on."""
     with socket.socket() as taken:
         taken.bind(("127.0.0.1", 0))
         return taken.getsockname()[1]

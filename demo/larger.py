@@ -31,6 +31,7 @@ def glyph_rows(lines, width):
 
 
 def hexadecimal(row):
+    """A row of ink as a BDF font has it."""
     text = "".join(map(str, row))
     text += "0" * (-len(text) % 8)
     return f"{int(text, 2):0{len(text) // 4}X}"

@@ -18,7 +18,7 @@ TOP = pathlib.Path(__file__).resolve().parent.parent
 FOLDERS, APART = (".ci", "bench", "demo", "deploy", "tests", "tools"), {"out", "__pycache__"}
 MOST_LINES, MOST_PARAMETERS, MOST_OF_FILE, FEW = 30, 4, 400, 3
 LONG, WIDE, BARE, LARGE = "functions above 30 lines", "functions above 4 parameters", "missing docstrings", "files above 400 lines"
-LIMITS = {LONG: 0, WIDE: 54, BARE: 343, LARGE: 0}
+LIMITS = {LONG: 0, WIDE: 54, BARE: 262, LARGE: 0}
 FUNCTIONS = (ast.FunctionDef, ast.AsyncFunctionDef)
 SCOPES = (*FUNCTIONS, ast.ClassDef)
 
