@@ -10,7 +10,7 @@ state that the lines say. Two administrators come at once; one vanishes within a
 batch of 4,194,304 bytes, and one announces another byte; one is silent, while clients are answered. It looks at no
 time but that what is to wait is silent for half a second. It ends with 1 where something is wrong.
 
-Gate: PROGRAM; 10 s
+Gate: PROGRAM; 2 s
 """
 import os
 import pathlib

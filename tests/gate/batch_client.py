@@ -6,7 +6,7 @@ Usage: batch_client.py PROGRAM
 Looked at are the exit status, and what stands on standard output and standard error. It ends with 1 where something is
 wrong.
 
-Gate: PROGRAM; 5 s
+Gate: PROGRAM; 7 s
 """
 import os
 import pathlib

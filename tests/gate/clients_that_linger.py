@@ -13,7 +13,7 @@ seconds, as --timeout says, whether bytes come or not; and the one that stays af
 nothing has time for half of the bytes that the system took for it, more than a minute: with `unread` as a third argument it is
 waited for.
 
-Gate: PROGRAM 10; 30 s
+Gate: PROGRAM 10; 5 s
 """
 import http.client
 import os

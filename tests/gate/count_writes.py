@@ -6,7 +6,7 @@ Usage: count_writes.py PROGRAM
 An answer of less than 4,096 bytes has to leave in one call, and so has the line that answers a command of an
 administrator. Ends with 1 where one doesn't.
 
-Gate: PROGRAM; needs strace; 3 s
+Gate: PROGRAM; needs strace; 1 s
 """
 import os
 import pathlib

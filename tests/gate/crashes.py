@@ -17,7 +17,7 @@ is changed at random, or the journal is cut, CHANGES times, 10,000 where it isn'
 or a record that an append wrote last is cut off, and no other. That is done with a journal that was never compacted and with one that
 was, half of the times in the header. It ends with 1 where something else came out.
 
-Gate: PROGRAM 50 500; needs cc; 90 s
+Gate: PROGRAM 50 500; needs cc; 120 s
 """
 import collections
 import itertools

@@ -8,7 +8,7 @@ a connection that they keep, two over a new one each time. None is to be closed 
 new one is to be answered within five seconds; on a machine that does nothing else it takes two. Where the system gives
 this script too few descriptors it ends with 77.
 
-Gate: PROGRAM; 20 s
+Gate: PROGRAM; 6 s
 """
 import os
 import pathlib

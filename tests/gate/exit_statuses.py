@@ -6,7 +6,7 @@ error alone, a file that can't be read with 1 and its name; words that are no fo
 error alone; a full standard output with 3, and a port that is taken, either of the two, also by the other; too little
 memory for the map with 4; with --explain these have a line on standard error. What was served ends with 0 once so many connections as were asked for came at each port.
 
-Gate: PROGRAM; 10 s
+Gate: PROGRAM; 2 s
 """
 import os
 import pathlib

@@ -18,7 +18,7 @@ is answered. The program always ends by itself, once so many connections as were
 With EVERY only every so-many-th call fails. The script prints how many calls each kind has while it lets them fail,
 and at the end how many it let fail. It ends with 1 where something else came out, or a run took longer than 30 s.
 
-Gate: PROGRAM 3; needs cc; 60 s
+Gate: PROGRAM 3; needs cc; 5 s
 """
 import os
 import pathlib

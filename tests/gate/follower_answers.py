@@ -7,7 +7,7 @@ The server's answers are written down below: it also ends a connection before or
 again without its batches. Looked at are the note at the end, what the log has of each batch, and why the follower waited
 or stopped. It ends with 1 where something is otherwise.
 
-Gate: 5 s
+Gate: 1 s
 """
 import os
 import pathlib

@@ -6,7 +6,7 @@ over from the first to the second: each request has to be answered whole, by the
 unproved program only then. After it no request may come to the first one, also over connections from before. And the digest
 by which demo/sources.py knows whether the program is built must not heed times. It ends with 1 where something is otherwise.
 
-Gate: 10 s
+Gate: 4 s
 """
 import asyncio
 import http.client

@@ -7,7 +7,7 @@ Each row starts the program in a folder of its own. Rows of rights start it as n
 of full disks and of files that are mounted by themselves need that this is allowed, and rows of calls that report another
 result than theirs need cc; where that isn't so, the row is skipped by name. It ends with 1 where a row came out otherwise.
 
-Gate: PROGRAM; 20 s
+Gate: PROGRAM; 6 s
 """
 import pathlib
 import shutil

@@ -8,7 +8,7 @@ and the journal where one is expected. Rows of rights start it as nobody where t
 disks need that one may be mounted; where that isn't so, the row is skipped by name. It ends with 1 where a row came out
 otherwise.
 
-Gate: PROGRAM; 20 s
+Gate: PROGRAM; 3 s
 """
 import fcntl
 import os

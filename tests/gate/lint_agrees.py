@@ -7,7 +7,7 @@ block in which others begin or don't, thousands that are made of these by droppi
 of Debian's python3-mapscript and mapserver-doc where they are installed, and those that are given. It ends with 1 where
 the two disagree.
 
-Gate: PROGRAM; 20 s
+Gate: PROGRAM; 40 s
 """
 import glob
 import os

@@ -7,7 +7,7 @@ is to have, for each answer, its connection, its target, its status and its byte
 numbered from 1, each client its own; a line for each command; a hint behind each fourth answer; and no other line. A request that follows another one in the same
 piece is to have no more milliseconds than its answer took. The exit status is 1 where anything is otherwise.
 
-Gate: PROGRAM; 5 s
+Gate: PROGRAM; 1 s
 """
 import pathlib
 import random

@@ -8,7 +8,7 @@ to 85.06 degrees (100,000), by the rule of docs/DRAWING.md. The greatest differe
 of the equator, is printed. The script ends with 1 where a number of the table isn't the nearest, or the difference is
 greater. It takes some seconds, and needs no program.
 
-Gate: 10 s
+Gate: 3 s
 """
 import decimal
 import math

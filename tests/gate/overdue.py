@@ -7,7 +7,7 @@ gives a head: all at once, 60 ms after they connected, and in pieces. Each is to
 the time. Then a kept connection asks for an answer that takes longer than --idle, and again at once: it is to be answered,
 since its time begins when it has its answer. The exit status is 1 where a client is closed without its answer.
 
-Gate: PROGRAM; 20 s
+Gate: PROGRAM; 9 s
 """
 import os
 import pathlib

@@ -8,7 +8,7 @@ have the background behind the other colours, white or nothing. A file tells by 
 that nothing is added to a chunk, and that the second row is found in the first. The script ends with 1 where a length is
 another, or where a PNG has other pixels than the PAM of the same request.
 
-Gate: PROGRAM; 5 s
+Gate: PROGRAM; 1 s
 """
 import pathlib
 import subprocess

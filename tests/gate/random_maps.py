@@ -10,7 +10,7 @@ labels. Of each map the program draws a picture without smoothing and one of eac
 by the rules that is as many times as fine. Some boxes have no fine picture. The script ends with 1 if a picture differs, and
 leaves its map, with its files, in a folder below the one where it runs.
 
-Gate: PROGRAM 20; 30 s
+Gate: PROGRAM 20; 12 s
 """
 import pathlib
 import random

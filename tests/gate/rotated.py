@@ -6,7 +6,7 @@ time the journal ends within a record. What is written of the journal is sent by
 started again: its picture and the features that it lists have to be those of all batches, worked out by the rules. A journal with
 a changed byte has to be refused, or to lack its last record, and a file that is none to be refused. It ends with 1 where something else came out.
 
-Gate: PROGRAM 5; 20 s
+Gate: PROGRAM 5; 8 s
 """
 import os
 import pathlib

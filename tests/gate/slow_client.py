@@ -7,7 +7,7 @@ A line of the table has the head, how often a thread of the server waited, and i
 whole and byte by byte. The script fails where an answer has another status than the expected one, or the two differ,
 or a byte isn't read within a minute.
 
-Gate: PROGRAM; 5 s
+Gate: PROGRAM; 3 s
 """
 import os
 import pathlib

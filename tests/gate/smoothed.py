@@ -9,7 +9,7 @@ scales an n-th. Each pixel of the first has to be the mean of n by n pixels of t
 polygons that share edges, outlines, lines, points, pixmaps, classes by scale and labels; the pictures lie across borders of
 blocks, in EPSG:3857, in each format, with each TRANSPARENT and with BGCOLOR. It ends with 1 where a picture differs.
 
-Gate: PROGRAM 4; 20 s
+Gate: PROGRAM 4; 6 s
 """
 import pathlib
 import random

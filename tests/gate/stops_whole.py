@@ -5,7 +5,7 @@ Eight clients ask for a picture of SIDE by SIDE pixels, by default the largest, 
 has to get all of its picture, the exit status has to be 0, and after that nothing may listen. Before it SIGHUP comes, which
 may end nothing. A command that isn't `serve` has to be run as it is. It ends with 1 where something is wrong.
 
-Gate: PROGRAM; 10 s
+Gate: PROGRAM; 2 s
 """
 import os
 import pathlib

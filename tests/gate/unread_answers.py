@@ -8,7 +8,7 @@ read nothing. Then a tile of 256 by 256 pixels is asked for, and a further one e
 connection of its own. Each is to come whole, within two seconds. Printed are the longest wait, the server's time of processor
 meanwhile, and how the others ended. Where the system gives this script too few descriptors it ends with 77.
 
-Gate: PROGRAM; 15 s
+Gate: PROGRAM; 6 s
 """
 import collections
 import os
