@@ -1,9 +1,10 @@
 -- What is drawn, with labels over it, is the picture; and there is one.
-use Rattle.std.proofs.Common.{◌≡◌, ◌∙◌, zero, suc, ℕ, ◌+◌, ◌*◌, ◌/◌, ◌%◌, ◌<◌, List, ◌++◌, length, Option, None, Some, refl, sym, arith, subst}
+use Rattle.std.proofs.Common.{◌≡◌, ◌∙◌, zero, suc, ℕ, ◌+◌, ◌*◌, ◌/◌, ◌%◌, ◌<◌, List, [], ◌++◌, length, Option, None, Some, refl, sym, arith, subst}
 use Rattle.std.proofs.lemmas.List.{same_lists}
 use Rattle.std.proofs.lemmas.Nat.{div_below}
 use Rattle.std.proofs.lemmas.Option.{get_or_from_slice_get}
 use Rattle.std.specs.List.{slice_get}
+use Rattle.std.specs.Prelude.{IfSome}
 use Rattle.labelcache.proofs.Unique.{one-placement}
 use Rattle.labelcache.specs.Candidate.{CandidateValue}
 use Rattle.labelcache.specs.Placement.{setting}
@@ -22,35 +23,27 @@ use Rattle.compose.specs.Walk.{classified_list}
 use Rattle.canvas.proofs.Painting.{painted-append, painted-area, painted-pixels}
 use Rattle.compose.proofs.Walking.{paint-list-of-classified}
 
--- from a canvas on which all classified features were drawn, and labels of the candidates were painted
-finished-canvas : (scene : SceneValue) (chosen : List ℕ) (background : Option Rgb) (b : DrawingValue) (c : PictureFields) →
-    IsDrawn scene (blank_of scene.view background) b (classified_list scene.scale scene.map chosen) → HasLabels scene b.labels b.canvas c →
+-- from a canvas of the background on which all classified features were drawn and their candidates collected, and labels of these were painted
+pub finished : (scene : SceneValue) (chosen : List ℕ) (background : Option Rgb) (a b : DrawingValue) (c : PictureFields) →
+    a ≡ record { canvas = blank_of scene.view background; labels = Some [] } →
+    IsDrawn scene a b (classified_list scene.scale scene.map chosen) → IfSome b.labels (λ candidates. HasLabels scene candidates b.canvas c) →
     IsPictureOf scene.map scene.view scene.scale chosen background c
-finished-canvas scene chosen background b c drawn labelled =
+finished scene chosen background a b c empty drawn labelled =
     let view = scene.view in
     let shapes = paint_list view scene.scale scene.map chosen in
-    let labels = rw drawn.labelled at labelled.placed in
-    let ink = rw drawn.labelled at labelled.painted in
-    let blank = (blank_of view background).canvas in
-    let painted = rw (← paint-list-of-classified view scene.scale scene.map chosen) at drawn.painted in
-    let all = painted-append blank b.canvas c shapes (ink_list scene.map.font (candidate_list view scene.scale scene.map chosen) labelled.labels) painted ink in
+    let blank = blank_of view background in
+    let whole = subst (λ (x : DrawingValue). IsDrawn scene x b (classified_list scene.scale scene.map chosen)) empty drawn in
+    let labels : HasLabels scene (candidate_list view scene.scale scene.map chosen) b.canvas c = rw whole.labelled at labelled in
+    let painted = rw (← paint-list-of-classified view scene.scale scene.map chosen) at whole.painted in
+    let all = painted-append blank b.canvas c shapes (ink_list scene.map.font (candidate_list view scene.scale scene.map chosen) labels.labels) painted labels.painted in
     record {
-      labels = labelled.labels;
-      placed = labels;
+      labels = labels.labels;
+      placed = labels.placed;
       width = all.width;
       height = all.height;
       area = painted-area view background _ c all;
       pixels = painted-pixels view background _ c all;
     }
-
-pub finished : (scene : SceneValue) (chosen : List ℕ) (background : Option Rgb) (b : DrawingValue) (c : PictureFields) →
-    IsDrawn scene (blank_of scene.view background) b (classified_list scene.scale scene.map chosen) → HasLabels scene b.labels b.canvas c → IsPictureOf scene.map scene.view scene.scale chosen background c
-finished scene chosen background b c drawn labelled = finished-canvas scene chosen background b c drawn labelled
-
--- drawn from what is blank
-pub from-blank : (scene : SceneValue) (chosen : List ℕ) (background : Option Rgb) (a b : DrawingValue) → a ≡ blank_of scene.view background →
-    IsDrawn scene a b (classified_list scene.scale scene.map chosen) → IsDrawn scene (blank_of scene.view background) b (classified_list scene.scale scene.map chosen)
-from-blank scene chosen background a b e drawn = subst (λ (x : DrawingValue). IsDrawn scene x b (classified_list scene.scale scene.map chosen)) e drawn
 
 -- candidates have one list of labels
 one-labelling : (view : ViewValue) (font : Option FontFields) (candidates : List CandidateValue) (a b : List Placed) → ArePlaced view font candidates a → ArePlaced view font candidates b → a ≡ b

@@ -12,6 +12,7 @@ pub mod MovedLists
 pub mod MovedShapes
 pub mod NearAnchors
 pub mod NearThings
+pub mod Reaching
 pub mod Smoothing
 pub mod Sparing
 pub mod Tiled

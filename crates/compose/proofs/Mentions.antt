@@ -23,13 +23,14 @@ use Rattle.mapdefs.specs.declared.picture.PictureFields.{PictureFields}
 use Rattle.scene.specs.Scene.{SceneValue}
 use Rattle.viewport.specs.View.{IsView, ViewValue, window}
 use Rattle.compose.specs.Anchor.{shown_anchor}
-use Rattle.compose.specs.Drawn.{DrawingValue, IsDrawn, IsMentioned}
+use Rattle.compose.specs.Drawn.{DrawingValue, IsDrawn, IsMentioned, with_candidates}
 use Rattle.compose.specs.Labels.{candidate_at, candidate_list, has_label, label_text, classified_candidates}
 use Rattle.canvas.specs.Shapes.{PaintedShape, colour_in, covers}
 use Rattle.compose.specs.Paint.{chosen_shapes, paint_list}
 use Rattle.canvas.specs.Painted.{IsPainted, colour_of, colour_at}
 use Rattle.compose.specs.Picture.{LastMentionsPaintAll}
 use Rattle.compose.specs.Walk.{ClassifiedFeatureValue, given_at, classified_chosen, classified_feature, classified_list}
+use Rattle.compose.proofs.Classifying.{with-more, with-none}
 use Rattle.compose.proofs.Found.{found-label-all}
 use Rattle.canvas.proofs.Painting.{colour_at-append, painted-append, painted-none}
 use Rattle.compose.proofs.Walking.{of-chosen, paint-list-of-classified}
@@ -43,7 +44,7 @@ pub record IsDrawnTo (scene : SceneValue) (chosen rest : List ℕ) (old new : Dr
   pub painted : IsPainted old.canvas new.canvas (paint_list scene.view scene.scale scene.map kept)
   pub same : (background : Option Rgb) (i j : ℕ) →
       colour_at background (paint_list scene.view scene.scale scene.map (kept ++ rest)) i j ≡ colour_at background (paint_list scene.view scene.scale scene.map chosen) i j
-  pub labelled : new.labels ≡ old.labels ++ candidate_list scene.view scene.scale scene.map done
+  pub labelled : new.labels ≡ with_candidates old.labels (candidate_list scene.view scene.scale scene.map done)
 
 -- shapes give a pixel the same colour over any background, or leave it as it is
 abbrev Hides : List PaintedShape → ℕ → ℕ → Type 0
@@ -112,20 +113,20 @@ drawn-to-first scene chosen a = record {
   is = refl;
   painted = painted-none a.canvas;
   same = λ background i j. refl;
-  labelled = sym (append-nil a.labels);
+  labelled = with-none a.labels;
 }
 
 -- the candidates of one more layer
-labelled-more : (scene : SceneValue) (done : List ℕ) (index : ℕ) (a b c : List CandidateValue) → b ≡ a ++ candidate_list scene.view scene.scale scene.map done →
-    c ≡ b ++ flat_map (classified_candidates scene.view scene.map.font) (classified_chosen scene.scale scene.map index) →
-    c ≡ a ++ candidate_list scene.view scene.scale scene.map (done ++ index ∷ [])
+labelled-more : (scene : SceneValue) (done : List ℕ) (index : ℕ) (a b c : Option (List CandidateValue)) → b ≡ with_candidates a (candidate_list scene.view scene.scale scene.map done) →
+    c ≡ with_candidates b (flat_map (classified_candidates scene.view scene.map.font) (classified_chosen scene.scale scene.map index)) →
+    c ≡ with_candidates a (candidate_list scene.view scene.scale scene.map (done ++ index ∷ []))
 labelled-more scene done index a b c p q =
     let candidates = classified_candidates scene.view scene.map.font in
     let classified = classified_chosen scene.scale scene.map in
     let early = flat_map candidates (flat_map classified done) in
     let one = flat_map candidates (classified index) in
     rw (flat_map-append classified done (index ∷ []), append-nil (classified index), flat_map-append candidates (flat_map classified done) (classified index))
-    (q ∙ ap (λ (z : List CandidateValue). z ++ one) p ∙ append_assoc a early one)
+    (q ∙ ap (λ (z : Option (List CandidateValue)). with_candidates z one) p ∙ with-more a early one)
 
 pub drawn-to-next : (scene : SceneValue) (chosen : List ℕ) (index : ℕ) (after : List ℕ) (a b c : DrawingValue) → IsDrawnTo scene chosen (index ∷ after) a b →
     IsMentioned scene index after b c → IsDrawnTo scene chosen after a c

@@ -1,5 +1,5 @@
 -- Painting what is found of a layer paints the layer.
-use Rattle.std.proofs.Common.{◌≡◌, ◌∙◌, ℕ, ◌*◌, ◌/◌, ◌%◌, ◌<◌, List, ◌++◌, length, get_or, Some, ap, arith}
+use Rattle.std.proofs.Common.{◌≡◌, ◌∙◌, ℕ, ◌*◌, ◌/◌, ◌%◌, ◌<◌, List, length, get_or, Some, ap, arith}
 use Rattle.std.proofs.lemmas.Nat.{div_below}
 use Rattle.std.proofs.lemmas.Option.{slice_get-get_or}
 use Rattle.std.specs.List.{flat_map}
@@ -13,7 +13,7 @@ use Rattle.mapdefs.specs.declared.picture.PictureFields.{PictureFields}
 use Rattle.mapdefs.specs.declared.symbol.Symbol.{Symbol}
 use Rattle.viewport.specs.View.{IsView, ViewValue, window}
 use Rattle.compose.specs.Near.{margin_of}
-use Rattle.compose.specs.Drawn.{DrawingValue, IsDrawn}
+use Rattle.compose.specs.Drawn.{DrawingValue, IsDrawn, with_candidates}
 use Rattle.compose.specs.Walk.{ClassifiedFeatureValue, given_at, classified_chosen, classified_feature, classified_layer, classified_shapes}
 use Rattle.labelcache.specs.Candidate.{CandidateValue}
 use Rattle.scene.specs.Scene.{SceneValue}
@@ -75,7 +75,7 @@ spared-drawing scene layer found a b limits wide high area are p =
           (spared view scene.scale symbols layer found a.canvas b.canvas limits wide high area are
           (rw (← given-nested shapes (classified_feature scene.scale layer) painted same layer.features found) at p.painted));
       labelled = p.labelled
-          ∙ ap (λ (z : List CandidateValue). a.labels ++ z)
+          ∙ ap (λ (z : List CandidateValue). with_candidates a.labels z)
           (found-label-all view (margin_of view.factor symbols layer) scene.scale scene.map.font layer found limits are);
     }
 

@@ -8,19 +8,21 @@ ghost use Rattle.canvas.specs.Painted.{IsPainted};
 ghost use Rattle.compose.specs.Blocks.{IsBlockOf, corner_of, label_from, whole_colour};
 ghost use Rattle.compose.specs.Labels.{candidate_list, ink_list, label_shapes};
 
+use crate::drawing::Drawing;
 use crate::ink::paint_label;
 use crate::labels::Labels;
-use crate::paint::{PictureQuery, drawn};
+use crate::paint::{PictureQuery, draw_chosen};
+use crate::reach::may_show;
 use canvas::Canvas;
 use geom::Pixel;
-use labelcache::Placed;
+use labelcache::{Cache, Placed};
 use mapdefs::{Font, Near};
 use scene::Scene;
 use std::alloc::AllocError;
 use viewport::View;
 
 /// The block of a whole picture that the canvas of a scene is: the chosen layers over the background, and then the labels of
-/// the whole picture.
+/// the whole picture. No candidates are collected on the block.
 pub fn draw_block<N: Near>(
     scene: &Scene<'_>,
     near: &N,
@@ -34,7 +36,9 @@ pub fn draw_block<N: Near>(
         IfOk result (IsBlockOf (whole_colour scene.now.map (whole_of view) scene.now.scale asked.now.chosen.now asked.now.background labels.now.placed)
         (record { first = view.left; count = view.width }) (record { first = view.top; count = view.height })) }
 {
-    let mut canvas = drawn(labels.alloc(), scene, near, asked)?.into_canvas();
+    let mut drawing = Drawing::new(labels.alloc(), scene, asked.background, None)?;
+    draw_chosen(&mut drawing, scene, near, asked.chosen)?;
+    let mut canvas = drawing.into_canvas();
     paint_whole_labels(&mut canvas, scene, labels)?;
     Ok(canvas)
 }
@@ -65,9 +69,24 @@ fn paint_moved(
         (flat_map (label_shapes font.now labels.now.candidates) (map (label_from (corner_of view)) labels.now.placed))) }
 {
     for label in labels.placed() {
-        paint_label(canvas, font, labels.candidates(), moved(*label, view))?;
+        paint_shown(canvas, font, labels.candidates(), moved(*label, view))?;
     }
     Ok(())
+}
+
+// Paints a label, unless all of it lies too far from the canvas to show there.
+fn paint_shown(
+    canvas: &mut Canvas,
+    font: &Font,
+    labels: &Cache<'_>,
+    label: Placed,
+) -> Result<(), AllocError>
+    ensures { OnOk result (IsPainted canvas.old canvas.new (label_shapes font.now labels.now label)) }
+{
+    if !may_show(font, label.at, canvas.width(), canvas.height()) {
+        return Ok(());
+    }
+    paint_label(canvas, font, labels, label)
 }
 
 // A label that is placed on the whole picture of a view, as it lies from the canvas's first pixel.

@@ -1,5 +1,5 @@
-ghost use Rattle.std.specs.Prelude.{◌≡◌, ◌*◌, [], IfOk, replicate};
-ghost use Rattle.compose.specs.Drawn.{HasLabels};
+ghost use Rattle.std.specs.Prelude.{◌≡◌, IfOk, IfSome};
+ghost use Rattle.compose.specs.Drawn.{HasLabels, blank_of};
 
 use crate::ink::paint_labels;
 use canvas::Canvas;
@@ -9,12 +9,12 @@ use scene::Scene;
 use std::alloc::{AllocError, Global};
 use std::marker::Model;
 
-/// A picture while it is drawn: the canvas, and the candidates for its labels so far. The candidates borrow their texts
-/// and labels from the map.
+/// A picture while it is drawn: the canvas, and the candidates for its labels so far, where they are collected. The
+/// candidates borrow their texts and labels from the map.
 #[derive(Drop)]
 pub struct Drawing<'a> {
     pub(crate) canvas: Canvas,
-    pub(crate) labels: Cache<'a>,
+    pub(crate) labels: Option<Cache<'a>>,
 }
 
 impl<'a> Model for Drawing<'a> {
@@ -25,22 +25,20 @@ impl<'a> Model for Drawing<'a> {
     ghost view = { λ d. record { canvas = d.canvas; labels = d.labels } };
 }
 
-impl Drawing<'_> {
-    /// A drawing of the background on a canvas as wide and as high as the scene's picture, without candidates.
+impl<'a> Drawing<'a> {
+    /// A drawing of the background on a canvas as wide and as high as the scene's picture. Candidates are collected after
+    /// those that are given, or not at all.
     pub fn new(
         alloc: Global,
         scene: &Scene<'_>,
         background: Option<Rgb>,
+        labels: Option<Cache<'a>>,
     ) -> Result<Self, AllocError>
-        ensures { let view = scene.now.view in
-            IfOk result (λ drawing. drawing ≡ record {
-              canvas = record { width = view.width; height = view.height; pixels = replicate (view.width * view.height) background };
-              labels = [];
-            }) }
+        ensures { IfOk result (λ drawing. drawing ≡ record { canvas = blank_of scene.now.view background; labels = labels.entry }) }
     {
         Ok(Drawing {
             canvas: Canvas::new(alloc, scene, background)?,
-            labels: Cache::new(alloc),
+            labels,
         })
     }
 
@@ -51,11 +49,14 @@ impl Drawing<'_> {
         self.canvas
     }
 
-    /// The canvas, with the labels of the candidates placed and painted over it.
+    /// The canvas, with the labels of the candidates placed and painted over it, where they were collected.
     pub fn into_labelled(self, scene: &Scene<'_>) -> Result<Canvas, AllocError>
-        ensures { IfOk result (HasLabels scene.now self.entry.labels self.entry.canvas) }
+        ensures { IfOk result (λ canvas. IfSome self.entry.labels (λ candidates. HasLabels scene.now candidates self.entry.canvas canvas)) }
     {
         let Drawing { mut canvas, labels } = self;
+        let Some(labels) = labels else {
+            return Ok(canvas);
+        };
         paint_labels(&mut canvas, scene, &labels)?;
         Ok(canvas)
     }

@@ -1,6 +1,7 @@
 ghost use Rattle.std.specs.Prelude.{◌≡◌, ◌≤◌, ◌++◌, length, OnOk};
 ghost use Rattle.std.specs.Str.{chars};
 ghost use Rattle.bdffont.specs.declared.text.TheConstants.{MAX_CHARACTERS};
+ghost use Rattle.compose.specs.Drawn.{with_candidates};
 ghost use Rattle.compose.specs.Labels.{feature_text, first_characters, label_text, classified_candidates};
 
 use crate::anchor::shown_anchor;
@@ -10,6 +11,7 @@ use bdffont::{MAX_CHARACTERS, split_char};
 use expressions::item_value;
 use labelcache::{Cache, Candidate};
 use mapdefs::{FeatureFields, LayerFields};
+use scene::Scene;
 use std::alloc::AllocError;
 
 // The text of a feature: its own, else the value of the layer's label item.
@@ -74,6 +76,20 @@ pub fn add_candidate<'a>(
     }
     match shown_anchor(scene, classified.layer().kind, classified.feature()) {
         Some(anchor) => { labels.add(Candidate::new(text, anchor, label.get(), scene.factor())) }
+        None => Ok(()),
+    }
+}
+
+/// Adds the candidate of a classified feature on the scene's canvas, if it has one, where candidates are collected.
+pub fn collect_candidate<'a>(
+    labels: &mut Option<Cache<'a>>,
+    scene: &Scene<'_>,
+    classified: &ClassifiedFeature<'a>,
+) -> Result<(), AllocError>
+    ensures { OnOk result (labels.new ≡ with_candidates labels.old (classified_candidates scene.now.view scene.now.map.font classified.now)) }
+{
+    match labels {
+        Some(labels) => add_candidate(labels, &LabelScene::of_canvas(scene), classified),
         None => Ok(()),
     }
 }

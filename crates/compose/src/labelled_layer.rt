@@ -1,5 +1,6 @@
 ghost use Rattle.std.specs.Prelude.{◌≡◌, ◌<◌, ◌++◌, All, OnOk, length};
 ghost use Rattle.std.specs.List.{flat_map, list_any};
+ghost use Rattle.compose.specs.Drawn.{with_candidates};
 ghost use Rattle.compose.specs.Labels.{has_label, classified_candidates};
 ghost use Rattle.compose.specs.Walk.{given_at, classified_chosen, classified_feature};
 
@@ -8,6 +9,7 @@ use crate::label::add_candidate;
 use crate::label_scene::LabelScene;
 use labelcache::Cache;
 use mapdefs::{FeatureFields, LayerFields, Near};
+use scene::Scene;
 use std::alloc::AllocError;
 
 /// Adds the candidates of the layer at an index, where it shows at the scale, and paints nothing. A layer without
@@ -33,6 +35,25 @@ pub fn add_layer<'a, N: Near>(
     }
     let found = near.candidates(index, scene.window())?;
     add_features(labels, scene, layer, &found)
+}
+
+/// Adds the candidates of the layer at an index on the scene's canvas, as `add_layer` does, where candidates are collected.
+pub fn collect_layer<'a, N: Near>(
+    labels: &mut Option<Cache<'a>>,
+    scene: &Scene<'a>,
+    near: &N,
+    index: usize,
+) -> Result<(), AllocError>
+    requires near { N.map_of near.now ≡ scene.now.map }
+    requires index { index < length scene.now.map.layers }
+    ensures { OnOk result
+        (labels.new ≡ with_candidates labels.old (flat_map (classified_candidates scene.now.view scene.now.map.font)
+        (classified_chosen scene.now.scale scene.now.map index))) }
+{
+    match labels {
+        Some(labels) => add_layer(labels, &LabelScene::of_canvas(scene), near, index),
+        None => Ok(()),
+    }
 }
 
 // Whether some class of a layer has a label.

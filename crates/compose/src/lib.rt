@@ -35,6 +35,7 @@ mod margin;
 mod means;
 mod paint;
 mod polygon;
+mod reach;
 mod smooth;
 mod tile;
 mod tile_rows;

@@ -1,20 +1,20 @@
 ghost use Rattle.std.specs.Prelude.{◌≡◌, ◌<◌, ◌*◌, All, IfOk, OnOk, length};
 ghost use Rattle.std.specs.List.{flat_map};
-ghost use Rattle.compose.specs.Drawn.{IsDrawn, IsMentioned, blank_of};
+ghost use Rattle.compose.specs.Drawn.{IsDrawn, IsMentioned};
 ghost use Rattle.canvas.specs.Painted.{IsPainted};
 ghost use Rattle.compose.specs.Picture.{IsPictureOf};
 ghost use Rattle.compose.specs.Walk.{given_at, classified_chosen, classified_feature, classified_list, classified_shapes};
 
 use crate::classified_feature::ClassifiedFeature;
 use crate::drawing::Drawing;
-use crate::label::add_candidate;
-use crate::label_scene::LabelScene;
-use crate::labelled_layer::add_layer;
+use crate::label::collect_candidate;
+use crate::labelled_layer::collect_layer;
 use crate::layer_classes::LayerClasses;
 use crate::margin::margin_of;
 use crate::polygon::paint_polygon;
 use canvas::Canvas;
 use inking::{paint_lines, paint_points};
+use labelcache::Cache;
 use mapdefs::{FeatureFields, Geometry, LayerFields, Map, Near, Picture, Rgb};
 use scaledenom::Scale;
 use scene::Scene;
@@ -57,36 +57,37 @@ pub fn draw<N: Near>(
     requires layers { All (λ index. index < length scene.now.map.layers) asked.now.chosen.now }
     ensures { IfOk result (IsPictureOf scene.now.map scene.now.view scene.now.scale asked.now.chosen.now asked.now.background) }
 {
-    Ok(
-        drawn(alloc, scene, near, asked)?
-            .into_labelled(scene)?
-            .into_picture(),
-    )
+    let labels = Some(Cache::new(alloc));
+    let mut drawing = Drawing::new(alloc, scene, asked.background, labels)?;
+    draw_chosen(&mut drawing, scene, near, asked.chosen)?;
+    Ok(drawing.into_labelled(scene)?.into_picture())
 }
 
-/// The chosen layers of a scene, drawn over the background, with the candidates for their labels.
-pub fn drawn<'a, N: Near>(
-    alloc: Global,
+/// Draws the chosen layers of a scene, and adds the candidates for their labels where they are collected. The canvas is as
+/// wide and as high as the scene's picture.
+pub fn draw_chosen<'a, N: Near>(
+    drawing: &mut Drawing<'a>,
     scene: &Scene<'a>,
     near: &N,
-    asked: &PictureQuery<'_>,
-) -> Result<Drawing<'a>, AllocError>
+    chosen: &[usize],
+) -> Result<(), AllocError>
     requires near { N.map_of near.now ≡ scene.now.map }
-    requires layers { All (λ index. index < length scene.now.map.layers) asked.now.chosen.now }
-    ensures { IfOk result (λ drawing. IsDrawn scene.now (blank_of scene.now.view asked.now.background) drawing
-        (classified_list scene.now.scale scene.now.map asked.now.chosen.now)) }
+    requires layers { All (λ index. index < length scene.now.map.layers) chosen.now }
+    requires width { drawing.old.canvas.width ≡ scene.now.view.width }
+    requires height { drawing.old.canvas.height ≡ scene.now.view.height }
+    requires area { length drawing.old.canvas.pixels ≡ drawing.old.canvas.width * drawing.old.canvas.height }
+    ensures { OnOk result (IsDrawn scene.now drawing.old drawing.new (classified_list scene.now.scale scene.now.map chosen.now)) }
 {
-    let mut drawing = Drawing::new(alloc, scene, asked.background)?;
-    let mut rest = asked.chosen;
+    let mut rest = chosen;
     while let Some((index, after)) = rest.split_first() {
         let mention = Mention {
             index: *index,
             after,
         };
-        draw_mention(&mut drawing, scene, near, &mention)?;
+        draw_mention(drawing, scene, near, &mention)?;
         rest = after;
     }
-    Ok(drawing)
+    Ok(())
 }
 
 /// The picture that `draw` gives in the scene of a map in a view, at a scale.
@@ -114,7 +115,8 @@ struct Mention<'a> {
     after: &'a [usize],
 }
 
-// Draws the layer of a mention. If the layer is chosen again after it, only its candidates are added.
+// Draws the layer of a mention. If the layer is chosen again after it, only its candidates are added, where they are
+// collected.
 fn draw_mention<'a, N: Near>(
     drawing: &mut Drawing<'a>,
     scene: &Scene<'a>,
@@ -129,8 +131,7 @@ fn draw_mention<'a, N: Near>(
     ensures { OnOk result (IsMentioned scene.now mention.now.index mention.now.after.now drawing.old drawing.new) }
 {
     if mention.after.contains(&mention.index) {
-        let labelled = LabelScene::of_canvas(scene);
-        return add_layer(&mut drawing.labels, &labelled, near, mention.index);
+        return collect_layer(&mut drawing.labels, scene, near, mention.index);
     }
     draw_layer(drawing, scene, near, mention.index)
 }
@@ -179,7 +180,8 @@ fn draw_features<'a>(
     Ok(())
 }
 
-// Draws a feature of the layer by its class, if it has one at the scale: paints it, and adds its candidate.
+// Draws a feature of the layer by its class, if it has one at the scale: paints it, and adds its candidate where
+// candidates are collected.
 fn draw_feature<'a>(
     drawing: &mut Drawing<'a>,
     scene: &Scene<'_>,
@@ -195,8 +197,7 @@ fn draw_feature<'a>(
     };
     let classified = ClassifiedFeature::new(classes.layer(), feature, class);
     paint_feature(&mut drawing.canvas, scene, &classified)?;
-    let labelled = LabelScene::of_canvas(scene);
-    add_candidate(&mut drawing.labels, &labelled, &classified)
+    collect_candidate(&mut drawing.labels, scene, &classified)
 }
 
 // Paints a classified feature.

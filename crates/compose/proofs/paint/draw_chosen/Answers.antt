@@ -1,12 +1,11 @@
 use Rattle.std.proofs.Common.{◌<◌, length, arith}
 use Rattle.std.proofs.lemmas.List.Elements.{All-tail}
-use Rattle.compose.proofs.Finishing.{from-blank}
 use Rattle.compose.proofs.Mentions.{drawn-to-first, drawn-to-last, drawn-to-next}
-use Rattle.compose.proofs.paint.drawn.Goals as goal
+use Rattle.compose.proofs.paint.draw_chosen.Goals as goal
 
 pub loop-index-init : goal.loop-index-init
 loop-index-init g c = record {
-  drawn = drawn-to-first c.args.scene.now c.args.asked.now.chosen.now c.in_ok-drawing.drawing;
+  drawn = drawn-to-first c.args.scene.now c.args.chosen.now c.args.drawing.now;
   layers = c.requires.layers;
 }
 
@@ -22,13 +21,11 @@ loop-index-preserved g c =
     let after = c.in-Some.after.now in
     let is = c.in-Some.ensures.cases.0 in
     record {
-      drawn = drawn-to-next scene c.args.asked.now.chosen.now index after c.in_ok-drawing.drawing c.loop-index.drawing c.draw_mention.new.drawing
+      drawn = drawn-to-next scene c.args.chosen.now index after c.args.drawing.now c.loop-index.drawing c.draw_mention.new.drawing
           (rw is at c.loop-index.invariant.drawn) c.in_ok-draw_mention.ensures;
       layers = All-tail (λ k. k < length scene.map.layers) index after (rw is at c.loop-index.invariant.layers);
     }
 
 pub returns : goal.returns
 returns g c =
-    let scene = c.args.scene.now in
-    from-blank scene c.args.asked.now.chosen.now c.args.asked.now.background c.in_ok-drawing.drawing c.loop-index.drawing c.in_ok-drawing.ensures
-    (drawn-to-last scene c.args.asked.now.chosen.now c.loop-index.rest.now c.in_ok-drawing.drawing c.loop-index.drawing c.in_default.ensures.cases c.loop-index.invariant.drawn)
+    drawn-to-last c.args.scene.now c.args.chosen.now c.loop-index.rest.now c.args.drawing.now c.loop-index.drawing c.in_default.ensures.cases c.loop-index.invariant.drawn
