@@ -4,6 +4,10 @@ use Rattle.std.specs.List.{list_any}
 use Rattle.streams.specs.Sent.{IsSent, IsCutSomewhere}
 use Rattle.streams.specs.Sides.{Attended, SidesView}
 use Rattle.batches.specs.Batch.{State}
+use Rattle.keepers.specs.Crashes.{LeavesOnly}
+use Rattle.keepers.specs.declared.cause.LogCause.{LogCause}
+use Rattle.keepers.specs.declared.cause.LogCause.TheVariants.{Overtaken}
+use Rattle.keepers.specs.declared.keeps.Keeps.{Ghosts as Keeps}
 use Rattle.mapshare.specs.Admin.{Batches, IsAccepted, all_of, with_batches}
 use Rattle.administration.specs.Commands.{Command, Submit}
 use Rattle.administration.specs.Reading.{StartWith}
@@ -18,6 +22,22 @@ use Rattle.batches.specs.declared.fault.BatchError.TheVariants as error
 -- the batches accepted from one state to a later one are kept, after those kept before
 abbrev pub IsKeptSince : {K : Type 0} → (K → List (List ℕ) → Type 0) → Batches → List (List ℕ) → Batches → K → Type 0
 IsKeptSince keeps old kept new keeper = (more : List (List ℕ)) × (all_of new ≡ all_of old ++ more) × keeps keeper (kept ++ more)
+
+-- a file stands for the batches that were kept, and some that are accepted after them
+abbrev pub StandsForAccepted : {K : Type 0} → State → Batches → (K → List ℕ → List (List ℕ) → Type 0) → K → List (List ℕ) → List ℕ → Type 0
+StandsForAccepted opening old stands keeper kept file = (more : List (List ℕ)) × IsAccepted opening (with_batches more old) × stands keeper file (kept ++ more)
+
+-- no batch is lost between one state of an administrator and its keeper and a later one: those that were accepted still are, and whatever a crash at any
+-- moment leaves stands for those that were kept, and some that are accepted after them
+pub record NoneLost {K : Type 0} (known : Keeps K) (opening : State) (old : Batches) (before : K) (new : Batches) (after : K) : Type 0 where
+  pub accepted : IsAccepted opening old → IsAccepted opening new
+  pub same_file : (file : List ℕ) (batches : List (List ℕ)) → known.stands after file batches → known.stands before file batches
+  pub any_moment : known.reliable → IsAccepted opening old → (kept : List (List ℕ)) → known.keeps before kept
+      → LeavesOnly known.moment known.left_since before after (StandsForAccepted opening old known.stands before kept)
+
+-- a call of the keeper failed for this cause, or its batches couldn't follow those of the history
+abbrev pub IsCause : (LogCause → Type 0) → LogCause → Type 0
+IsCause fails cause = fails cause ⊎ (cause ≡ Overtaken)
 
 -- the results of so many batches that were accepted together: published, with the sequence after the last of them, or pending
 abbrev pub accepted_results : Option ℕ → ℕ → List Done

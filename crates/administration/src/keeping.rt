@@ -1,13 +1,13 @@
 //! Serving a client whose batches are kept.
 
-ghost use Rattle.std.specs.Prelude.{◌≡◌, ◌≢◌, ◌≤◌, ◌-◌, ◌++◌, ℕ, List, [], length, take, IfOk, IfSome, IsErrOf, MatchOption, MatchResult, OnErr, OnOk, Err, false, true};
+ghost use Rattle.std.specs.Prelude.{◌≡◌, ◌≢◌, ◌≤◌, ◌-◌, ◌++◌, ℕ, List, [], length, take, IfErr, IfOk, IfSome, IsErrOf, MatchOption, MatchResult, OnErr, OnOk, Err, false, true};
 ghost use Rattle.std.specs.Result.{is_err};
 ghost use Rattle.streams.specs.Sent.{IsSent, IsCutSomewhere};
 ghost use Rattle.streams.specs.Sides.{sides_view};
 ghost use Rattle.journal.specs.Texts.{texts_of};
 ghost use Rattle.mapshare.specs.Admin.{Batches, all_of};
 ghost use Rattle.administration.specs.Commands.{Command};
-ghost use Rattle.administration.specs.Keeping.{HasFailed, IsCutShort, IsFailed, IsKeptSince, IsReported, failed_lines, results_of};
+ghost use Rattle.administration.specs.Keeping.{HasFailed, IsCause, IsCutShort, IsFailed, IsKeptSince, IsReported, NoneLost, failed_lines, results_of};
 ghost use Rattle.administration.specs.Reading.{IsOther};
 ghost use Rattle.administration.specs.Serving.{ArePublished, AreSubmitted, HasAdministered, HasDone, attended, lines_of};
 ghost use Rattle.administration.specs.declared.group.TheConstants.{MAX_GROUP};
@@ -35,11 +35,11 @@ pub enum AdministerFault {
 }
 
 // Publishes the pending batches, where some were just accepted, and returns the sequence after them. There is none where there was no memory.
-fn publish_accepted<S: Sharing, R: Wait>(
+fn publish_accepted<S: Sharing, K, R: Wait>(
     rt: &R,
-    admin: Admin<S>,
+    admin: Admin<S, K>,
     accepted: usize,
-) -> (Admin<S>, Option<u64>)
+) -> (Admin<S, K>, Option<u64>)
     requires pending { 1 ≤ accepted → admin.pending ≢ [] }
     ensures published { MatchOption result.1 (result.0 ≡ admin) (λ sequence. ArePublished S.opening (all_of admin) sequence result.0) }
     ensures some { IfSome result.1 (λ _. 1 ≤ accepted) }
@@ -56,10 +56,10 @@ fn publish_accepted<S: Sharing, R: Wait>(
 // Keeps the first of some batches, up to the first that isn't accepted, and publishes them, where there are any.
 fn accept<S: Sharing, K: Keeps, R: Wait>(
     rt: &R,
-    mut admin: Admin<S>,
+    mut admin: Admin<S, K>,
     keeper: &mut K,
     batches: &[Vec<u8>],
-) -> (Admin<S>, Result<Front, KeepFailed>)
+) -> (Admin<S, K>, Result<Front, KeepFailed>)
     requires ready { (kept : List (List ℕ)) × K.keeps keeper.old kept }
     ensures some { IfOk result.1 (λ front. 1 ≤ length batches.now → 1 ≤ length (results_of front)) }
     ensures few { IfOk result.1 (λ front. length (results_of front) ≤ length batches.now) }
@@ -67,6 +67,8 @@ fn accept<S: Sharing, K: Keeps, R: Wait>(
         (λ front. AreSubmitted S.opening admin (take (length (results_of front)) (texts_of batches.now)) (results_of front) result.0)
         (λ _. HasFailed S.opening admin (texts_of batches.now) × (result.0 ≡ admin)) }
     ensures kept { (kept : List (List ℕ)) → K.keeps keeper.old kept → OnOk result.1 (IsKeptSince K.keeps admin kept result.0 keeper.new) }
+    ensures crash { NoneLost ⟦<K as Keeps>⟧ S.opening admin keeper.old result.0 keeper.new }
+    ensures cause { IfErr result.1 (λ failed. IsCause K.fails failed.cause) }
 {
     let Accepted { count, refused } = match admin.accept_kept(keeper, batches) {
         Ok(accepted) => accepted,
@@ -84,16 +86,18 @@ fn accept<S: Sharing, K: Keeps, R: Wait>(
 // Does all batches of a group. Where the keeper fails, the results are those of the batches before.
 fn accept_all<S: Sharing, K: Keeps, R: Wait>(
     rt: &R,
-    mut admin: Admin<S>,
+    mut admin: Admin<S, K>,
     keeper: &mut K,
     batches: &[Vec<u8>],
-) -> (Admin<S>, Results, Result<(), KeepFailed>)
+) -> (Admin<S, K>, Results, Result<(), KeepFailed>)
     requires few { length batches.now ≤ MAX_GROUP }
     requires ready { (kept : List (List ℕ)) × K.keeps keeper.old kept }
     ensures done { OnOk result.2 (AreSubmitted S.opening admin (texts_of batches.now) result.1 result.0) }
     ensures failed { OnErr result.2 ((first failed : List (List ℕ)) × (texts_of batches.now ≡ first ++ failed)
         × AreSubmitted S.opening admin first result.1 result.0 × HasFailed S.opening result.0 failed) }
     ensures kept { (kept : List (List ℕ)) → K.keeps keeper.old kept → OnOk result.2 (IsKeptSince K.keeps admin kept result.0 keeper.new) }
+    ensures crash { NoneLost ⟦<K as Keeps>⟧ S.opening admin keeper.old result.0 keeper.new }
+    ensures cause { IfErr result.2 (λ failed. IsCause K.fails failed.cause) }
 {
     let mut results = Results::new();
     let mut rest = batches;
@@ -110,7 +114,11 @@ fn accept_all<S: Sharing, K: Keeps, R: Wait>(
 }
 
 // Does a command that keeps no batch.
-fn perform_other<S: Sharing, R: Wait>(rt: &R, admin: Admin<S>, other: Other) -> (Admin<S>, Done)
+fn perform_other<S: Sharing, K, R: Wait>(
+    rt: &R,
+    admin: Admin<S, K>,
+    other: Other,
+) -> (Admin<S, K>, Done)
     ensures done { (command : Command) → IsOther command other → HasDone S.opening admin command result.1 result.0 }
     ensures same { all_of result.0 ≡ all_of admin }
 {
@@ -164,10 +172,10 @@ fn report<O: Sink>(
 /// served no more.
 pub fn administer_kept<S: Sharing, K: Keeps, R: AllocGlobal + Wait, I: BufferedSource, O: Sink>(
     rt: &R,
-    mut admin: Admin<S>,
+    mut admin: Admin<S, K>,
     keeper: &mut K,
     client: &mut Client<I, O>,
-) -> (Admin<S>, Result<(), AdministerFault>)
+) -> (Admin<S, K>, Result<(), AdministerFault>)
     requires ready { (kept : List (List ℕ)) × K.keeps keeper.old kept }
     ensures served { OnOk result.1
         (HasAdministered S.opening (sides_view ⟦<I as Source>⟧ ⟦<O as Sink>⟧) (attended client.old admin) (attended client.new result.0)) }
@@ -180,6 +188,10 @@ pub fn administer_kept<S: Sharing, K: Keeps, R: AllocGlobal + Wait, I: BufferedS
     ensures kept { (kept : List (List ℕ)) → K.keeps keeper.old kept → MatchResult result.1
         (λ _. IsKeptSince K.keeps admin kept result.0 keeper.new)
         (λ why. why ≡ fault.PutFailed → IsKeptSince K.keeps admin kept result.0 keeper.new) }
+
+    // A crash at any moment leaves those that were kept, and some that are accepted after them.
+    ensures crash { NoneLost ⟦<K as Keeps>⟧ S.opening admin keeper.old result.0 keeper.new }
+    ensures cause { (cause : LogCause) → IsErrOf result.1 (fault.KeepFailed cause) → IsCause K.fails cause }
     ensures flag { MatchResult result.1 (λ _. O.put_failed client.new.writer ≡ O.put_failed client.old.writer)
         (λ why. why ≡ fault.PutFailed → O.put_failed client.new.writer ≡ true) }
 {

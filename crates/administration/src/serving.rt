@@ -9,6 +9,7 @@ ghost use Rattle.administration.specs.declared.done.Done.{Done};
 use crate::client::Client;
 use crate::done::{Done, send_line};
 use crate::reading::{ReadCommand, read_command};
+use keepers::Nowhere;
 use mapshare::{Admin, Retried, Sharing, Submitted};
 use std::sync::Wait;
 use streams::{PutFailed, Sink, Source};
@@ -26,7 +27,7 @@ fn done_of<S: Sharing>(submitted: Submitted<S>) -> Done
 }
 
 // Publishes the pending batches, if there are any.
-pub(crate) fn publish<S: Sharing, R: Wait>(rt: &R, admin: Admin<S>) -> (Admin<S>, Done)
+pub(crate) fn publish<S: Sharing, K, R: Wait>(rt: &R, admin: Admin<S, K>) -> (Admin<S, K>, Done)
     ensures done { HasDone S.opening admin Publish result.1 result.0 }
     ensures same { all_of result.0 ≡ all_of admin }
 {
@@ -38,7 +39,11 @@ pub(crate) fn publish<S: Sharing, R: Wait>(rt: &R, admin: Admin<S>) -> (Admin<S>
 }
 
 // Submits a batch, which nothing keeps.
-fn submit<S: Sharing, R: Wait>(rt: &R, admin: Admin<S>, batch: Vec<u8>) -> (Admin<S>, Done)
+fn submit<S: Sharing, R: Wait>(
+    rt: &R,
+    admin: Admin<S, Nowhere>,
+    batch: Vec<u8>,
+) -> (Admin<S, Nowhere>, Done)
     ensures { HasDone S.opening admin (Submit batch.items) result.1 result.0 }
 {
     let (admin, submitted) = admin.submit(rt, batch);
@@ -46,7 +51,11 @@ fn submit<S: Sharing, R: Wait>(rt: &R, admin: Admin<S>, batch: Vec<u8>) -> (Admi
 }
 
 // Does a command. No batch is kept.
-fn perform<S: Sharing, R: Wait>(rt: &R, admin: Admin<S>, asked: ReadCommand) -> (Admin<S>, Done)
+fn perform<S: Sharing, R: Wait>(
+    rt: &R,
+    admin: Admin<S, Nowhere>,
+    asked: ReadCommand,
+) -> (Admin<S, Nowhere>, Done)
     ensures { (command : Command) → IsHeldOf command asked → HasDone S.opening admin command result.1 result.0 }
 {
     match asked {
@@ -65,9 +74,9 @@ fn perform<S: Sharing, R: Wait>(rt: &R, admin: Admin<S>, asked: ReadCommand) -> 
 /// for the client, and for readers of the map that still read an older state.
 pub fn administer<S: Sharing, R: AllocGlobal + Wait, I: Source, O: Sink>(
     rt: &R,
-    mut admin: Admin<S>,
+    mut admin: Admin<S, Nowhere>,
     client: &mut Client<I, O>,
-) -> (Admin<S>, Result<(), PutFailed>)
+) -> (Admin<S, Nowhere>, Result<(), PutFailed>)
     ensures served { OnOk result.1
         (HasAdministered S.opening (sides_view ⟦<I as Source>⟧ ⟦<O as Sink>⟧) (attended client.old admin) (attended client.new result.0)) }
     ensures stopped { OnErr result.1

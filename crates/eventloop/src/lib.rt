@@ -4,11 +4,11 @@
 //! turn, and closes one whose time is over and that has nothing to do. The loop calls `ConnectionTable` of `turns`, whose contracts state what a turn
 //! does and which connection has the next one.
 //!
-//! Proved: a loop goes by the steps of `turns` alone (`run`), from a table without connections to the worker that its thread gives
-//! back (`HasServed`, `WorkerThreads::end`). Between two looks at the poller at most one query is asked (`serve_some`), what the
-//! poller reports has a turn (`wait`, `laws::events_serve`), and a connection that has to give way does (`Orders`, `find_slot`, `make_room`). Where it opens,
-//! closes and serves connections, turns begin and closings are made at the moment of its last look (`HasRunAt`); no clause says the moment of a whole round, nor of what follows
-//! once no slot is ready. No proof covers that the system reports each event, nor that threads run. Each call ends but `run` and those that wait.
+//! Proved: a loop goes in rounds from a table without connections, until it was told to end and has none (`run`), and so does the
+//! worker that a thread gives back (`HasServed`, `WorkerThreads::end`). After each wait it obeys its orders, takes over what waits, makes
+//! turns with one query at most, makes room, and closes connections whose time is over (`IsRound`), all at the moment that its clock
+//! showed behind the wait. What the poller reports has a turn (`wait`, `laws::events_serve`). No proof covers that the system reports each
+//! event, nor that threads run. Each call ends but `run` and those that wait.
 //!
 //! Terms: a worker *finishes* where no further connection comes to it: those that it has are served to their end. It *stops*
 //! where those that aren't being answered are closed.

@@ -1,4 +1,4 @@
-ghost use Rattle.std.specs.Prelude.{◌≡◌, IfOk, IfSome};
+ghost use Rattle.std.specs.Prelude.{◌≡◌, ◌+◌, ◌-◌, ◌^◌, [], length, min, IfOk, IfSome, OnOk};
 ghost use Rattle.std.specs.List.{All};
 ghost use Rattle.eventloop.specs.Rounds.{AllFree, HasBeen};
 ghost use Rattle.eventloop.specs.Working.{BeganWith};
@@ -59,6 +59,7 @@ impl<A: Asks + Drop, T: Transport + EndsEarly + Drop, P: Drop, W: Wakes + Drop> 
     /// No workers yet, with room for so many. Its error is that memory was refused.
     pub fn new(alloc: Global, count: usize) -> Result<Self, AllocError>
         ensures began { (times : Timeouts) → IfOk result (λ workers. BeganWith times workers.threads.items) }
+        ensures none { IfOk result (λ workers. (workers.threads.items ≡ []) × (workers.count ≡ 0)) }
     {
         Ok(WorkerThreads {
             handovers: Vec::with_capacity(alloc, count)?,
@@ -78,12 +79,13 @@ impl<A: Asks + Drop, T: Transport + EndsEarly + Drop, P: Drop, W: Wakes + Drop> 
     }
 
     /// Hands over the next connection, without a wait: connection c to worker c mod N, of N, counted from 1. Where memory is
-    /// refused its client gets the answer that the server is busy.
-    pub fn hand_over<R: Wait>(&mut self, rt: &R, transport: T)
+    /// refused its client gets the answer that the server is busy. One that couldn't be had for calls that never wait is counted, too.
+    pub fn hand_over<R: Wait>(&mut self, rt: &R, transport: Option<T>)
         ensures threads { self.new.threads ≡ self.old.threads }
+        ensures count { self.new.count ≡ min (self.old.count + 1) (2 ^ 64 - 1) }
     {
         self.count = self.count.saturating_add(1);
-        let Some(worker) = self.worker(self.count) else {
+        let (Some(worker), Some(transport)) = (self.worker(self.count), transport) else {
             return;
         };
         if let Err(mut transport) = worker.put(rt, transport) {
@@ -94,6 +96,7 @@ impl<A: Asks + Drop, T: Transport + EndsEarly + Drop, P: Drop, W: Wakes + Drop> 
     /// A further connection needs a descriptor: of one worker, the next each time, a connection gives way, if one may.
     pub fn press<R: Wait>(&mut self, rt: &R)
         ensures threads { self.new.threads ≡ self.old.threads }
+        ensures count { self.new.count ≡ self.old.count }
     {
         self.pressed = self.pressed.saturating_add(1);
         if let Some(worker) = self.worker(self.pressed) {
@@ -126,6 +129,7 @@ impl<A: Asks + Drop, T: Transport + EndsEarly + Drop, P: Drop, W: Wakes + Drop> 
             (λ workers. All (λ worker. HasBeen A.answers ⟦<T as Transport>⟧ worker) workers.items) }
         ensures times { (times : Timeouts) → BeganWith times self.threads.items
             → IfSome result (λ workers. All (λ worker. timeouts_of worker.table ≡ times) workers.items) }
+        ensures all { IfSome result (λ workers. length workers.items ≡ length self.threads.items) }
     {
         let WorkerThreads {
             handovers,
@@ -189,6 +193,8 @@ where
     requires free { AllFree worker.table }
     ensures began { (times : Timeouts) → BeganWith times workers.old.threads.items → timeouts_of worker.table ≡ times
         → BeganWith times workers.new.threads.items }
+    ensures more { OnOk result (length workers.new.threads.items ≡ length workers.old.threads.items + 1) }
+    ensures count { workers.new.count ≡ workers.old.count }
 {
     let Some(waker) = worker.waker() else {
         return Err(WorkerStartError);

@@ -6,6 +6,7 @@ use crate::maps::some_machine;
 use crate::tally::Tally;
 use administration::{Client, administer};
 use history::Blank;
+use keepers::Nowhere;
 use mapmachine::Machine;
 use mapshare::{Sharing, open};
 use std::alloc::{AllocError, Global};
@@ -25,7 +26,7 @@ fn answered<S: Sharing, R: AllocGlobal + Wait>(
     requires history { blank.seen.book ≡ S.book }
     requires opening { machine.now ≡ S.opening }
 {
-    let Ok((admin, _readers)) = open::<S, R>(rt, blank, machine, 1) else {
+    let Ok((admin, _readers)) = open::<S, Nowhere, R>(rt, blank, machine, 1) else {
         return Err(AllocError);
     };
     let mut client = Client {

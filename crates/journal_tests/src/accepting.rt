@@ -50,7 +50,7 @@ fn accept<S: Sharing, K: Keeps + Drop, R: AllocGlobal + Wait>(
         mut keeper,
         batches,
     } = submission;
-    let (mut admin, _readers) = open::<S, R>(rt, blank, machine, 1).ok()?;
+    let (mut admin, _readers) = open::<S, K, R>(rt, blank, machine, 1).ok()?;
     let accepted = admin.accept_kept(&mut keeper, batches.as_slice());
     let (admin, retried) = admin.retry(rt);
     admin.close(rt);

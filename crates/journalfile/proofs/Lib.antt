@@ -1,4 +1,4 @@
-pub mod Moments
+pub mod Elapsing
 pub mod Pieces
 pub mod Searching
 pub mod Standing

@@ -6,7 +6,8 @@ use Rattle.journalfile.specs.Log.{NoOther, Elapses}
 use Rattle.journalfile.specs.Frames.{Ahead, IsAhead, IsPiece, HasAdded, HasTaken, IsRead}
 use Rattle.std.specs.Prelude.{true, false, None, Some, Vec}
 use Rattle.std.specs.declared.alloc.Global.{Global}
-use Rattle.journalfile.proofs.Moments.{begins, follows}
+use Rattle.keepers.proofs.Moments.{follows}
+use Rattle.journalfile.proofs.Elapsing.{begins}
 
 module _ {L : Type 0} (content : L → List ℕ) (may_leave : L → List ℕ → Type 0) (moment : L → ℕ) (left_since : L → ℕ → List ℕ → Type 0) where
   pub read_once : (old new : L) → ((c : List ℕ) → left_since old (moment old) c → may_leave old c) → content new ≡ content old → NoOther (may_leave old) (may_leave new)

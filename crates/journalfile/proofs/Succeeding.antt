@@ -16,11 +16,13 @@ use Rattle.journal.proofs.Standing.{stands}
 use Rattle.journalfile.specs.Compacting.{HasCompacted, IsCompacted, StandsForLeft, compacted_name, left_out}
 use Rattle.journalfile.specs.Frames.{IsRead}
 use Rattle.journalfile.specs.Keeping.{FileHas, JournalHas, settled_stands}
-use Rattle.journalfile.specs.Log.{Elapses, LeavesOnly, NoOther}
+use Rattle.keepers.specs.Crashes.{LeavesOnly}
+use Rattle.journalfile.specs.Log.{Elapses, NoOther}
 use Rattle.journalfile.specs.Settled.{IsSettled}
 use Rattle.journalfile.specs.declared.reading.NotCompacted.{NotCompacted}
 use Rattle.journalfile.specs.declared.writing.Journal.{Journal}
-use Rattle.journalfile.proofs.Moments.{goes_on, weaker}
+use Rattle.keepers.proofs.Moments.{weaker}
+use Rattle.journalfile.proofs.Elapsing.{goes_on}
 
 -- what is left of batches is short of all that they are short of
 pub shorter : (skipped : ℕ) (own batches : List (List ℕ)) → IsShortOf accepted skipping skipped own batches → IsShortOf accepted skipping (skipped + left_out own) (compacted own) batches

@@ -4,7 +4,8 @@ use Rattle.std.specs.declared.alloc.Global.{Global}
 use Rattle.sha2.specs.Sha256.{sha256}
 use Rattle.journal.specs.Slip.{HasNoEnd}
 use Rattle.journal.specs.Reading.{ContainsRecord}
-use Rattle.journalfile.specs.Log.{NoOther, LeavesOnly}
+use Rattle.keepers.specs.Crashes.{LeavesOnly}
+use Rattle.journalfile.specs.Log.{NoOther}
 
 -- the bytes that were read and not taken, and the offset in the log of the first of them
 pub record Ahead : Type 0 where

@@ -28,10 +28,3 @@ pub record Elapses (before now : ℕ) (past since : ℕ → List ℕ → Type 0)
   pub later : before ≤ now
   pub nothing_else : (t : ℕ) (c : List ℕ) → t ≤ before → since t c → past t c ⊎ outcomes c
   pub keeps : (t : ℕ) (c : List ℕ) → t ≤ before → past t c → since t c
-
--- a crash at any moment from the old state to the new one leaves bytes that have P
-pub record LeavesOnly {L : Type 0} (moment : L → ℕ) (left_since : L → ℕ → List ℕ → Type 0) (old new : L) (P : List ℕ → Type 0) : Type 0 where
-  pub later : moment old ≤ moment new
-  pub each : (c : List ℕ) → left_since new (moment old) c → P c
-  -- for a run that began earlier
-  pub before : (t : ℕ) (c : List ℕ) → t ≤ moment old → left_since new t c → left_since old t c ⊎ P c

@@ -9,7 +9,8 @@ ghost use Rattle.journal.specs.Record.{journal_of};
 ghost use Rattle.journalfile.specs.Compacting.{HasCompacted, IsCompacted, StandsForLeft, next_checkpoint};
 ghost use Rattle.journalfile.specs.Frames.{IsRead};
 ghost use Rattle.journalfile.specs.Keeping.{FileHas, JournalHas};
-ghost use Rattle.journalfile.specs.Log.{LeavesOnly, Only};
+ghost use Rattle.keepers.specs.Crashes.{LeavesOnly};
+ghost use Rattle.journalfile.specs.Log.{Only};
 ghost use Rattle.journalfile.specs.Settled.{IsSettled};
 
 use crate::compacting::{count_left, last_changes, write_left};

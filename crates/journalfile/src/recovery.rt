@@ -9,7 +9,8 @@ ghost use Rattle.journal.specs.Name.{IsBounded, name_bytes};
 ghost use Rattle.journal.specs.declared.name.JournalName.{JournalName};
 ghost use Rattle.journal.specs.Record.{header};
 ghost use Rattle.journal.specs.Reading.{StandAlike, StandsFor};
-ghost use Rattle.journalfile.specs.Log.{LeavesOnly, Only};
+ghost use Rattle.keepers.specs.Crashes.{LeavesOnly};
+ghost use Rattle.journalfile.specs.Log.{Only};
 ghost use Rattle.journalfile.specs.Frames.{IsAhead, IsRead};
 ghost use Rattle.journalfile.specs.Recovery.{HasJudged, HasRecovered, HasReplayed, IsFaultOf, IsNameFault, IsReplayFault, IsTransient};
 

@@ -1,7 +1,8 @@
 //! Steps of a log that are synced at once.
 
 ghost use Rattle.std.specs.Prelude.{◌≡◌, ◌≤◌, ◌++◌, length, take, OnOk};
-ghost use Rattle.journalfile.specs.Log.{LeavesOnly, Only};
+ghost use Rattle.keepers.specs.Crashes.{LeavesOnly};
+ghost use Rattle.journalfile.specs.Log.{Only};
 ghost use Rattle.journalfile.specs.Steps.{MayAppend, MayCut};
 
 use crate::log::Log;

@@ -2,7 +2,7 @@
 
 ghost use Rattle.std.specs.Prelude.{◌≡◌, ◌<◌, ◌+◌, ◌^◌, ◌++◌, List, ℕ, length, IfOk, OnOk, Err};
 ghost use Rattle.sha2.specs.Sha256.{sha256};
-ghost use Rattle.journalfile.specs.Log.{LeavesOnly};
+ghost use Rattle.keepers.specs.Crashes.{LeavesOnly};
 ghost use Rattle.journal.specs.Name.{name_bytes};
 ghost use Rattle.journal.specs.Texts.{texts_of};
 ghost use Rattle.journal.specs.Reading.{StandsForFirst};

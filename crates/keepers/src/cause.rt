@@ -23,6 +23,8 @@ pub enum LogCause {
     NoMemory,
     /// A record that was written isn't read.
     Unread,
+    /// The history has other batches: those that were kept can't be shown before the next start.
+    Overtaken,
     /// Another cause.
     Other,
 }

@@ -1,9 +1,10 @@
 //! Keepers of accepted batches.
 
-ghost use Rattle.std.specs.Prelude.{◌≡◌, ◌++◌, ℕ, List, OnOk, Err};
-ghost use mathlib.Core.List.{IsPrefix};
+ghost use Rattle.std.specs.Prelude.{◌≡◌, ◌++◌, ℕ, List, IsErrOf, OnOk, Err};
 ghost use Rattle.journal.specs.Texts.{texts_of};
-ghost use Rattle.keepers.specs.Keeping.{keeps_of, may_leave_of, option_stays, stands_of};
+ghost use Rattle.keepers.specs.Crashes.{LeavesOnly, StandsWithFirst};
+ghost use Rattle.keepers.specs.Keeping.{keeps_of, left_since_of, moment_of, option_stays, stands_of};
+ghost use Rattle.keepers.specs.declared.cause.LogCause.{LogCause};
 
 use crate::cause::LogCause;
 
@@ -19,28 +20,39 @@ pub enum KeepFault {
 /// A keeper of accepted batches, before they are published: a journal, or nothing where they needn't outlive the
 /// process.
 pub trait Keeps {
+    /// What a crash leaves is known. Of a file of the system it isn't.
+    ghost reliable: { Type 0 };
+
     /// These are the batches that it keeps.
     ghost keeps: { Self → List (List ℕ) → Type 0 };
 
-    /// A crash at some moment from one state to a later one may leave this file.
-    ghost may_leave: { Self → Self → List ℕ → Type 0 };
+    /// The moment, as a number that doesn't fall.
+    ghost moment: { Self → ℕ };
+
+    /// The files that a crash at some moment from that one on might have left.
+    ghost left_since: { Self → ℕ → List ℕ → Type 0 };
 
     /// A file stands for these batches.
     ghost stands: { Self → List ℕ → List (List ℕ) → Type 0 };
+
+    /// A call may fail for this cause.
+    ghost fails: { LogCause → Type 0 };
 
     /// Keeps more batches, in their order, by one sync. A crash at any moment leaves the batches from before, and after them the first of these, or
     /// none.
     fn keep(&mut self, batches: &[Vec<u8>]) -> Result<(), KeepFault>
         requires ready { (kept : List (List ℕ)) × keeps self.old kept }
         ensures kept { OnOk result ((kept : List (List ℕ)) → keeps self.old kept → keeps self.new (kept ++ texts_of batches.now)) }
-        ensures any_moment { (kept : List (List ℕ)) → keeps self.old kept → (file : List ℕ) → may_leave self.old self.new file
-            → (first : List (List ℕ)) × IsPrefix first (texts_of batches.now) × stands self.old file (kept ++ first) }
-        ensures no_memory { result ≡ Err KeepFault.NoMemory → self.new ≡ self.old };
+        ensures any_moment { reliable → (kept : List (List ℕ)) → keeps self.old kept
+            → LeavesOnly moment left_since self.old self.new (StandsWithFirst stands self.old kept (texts_of batches.now)) }
+        ensures same_file { (file : List ℕ) (batches : List (List ℕ)) → stands self.new file batches → stands self.old file batches }
+        ensures no_memory { result ≡ Err KeepFault.NoMemory → self.new ≡ self.old }
+        ensures failed { (cause : LogCause) → IsErrOf result (KeepFault.Failed cause) → fails cause };
 
     /// Where nothing is done, a crash leaves the batches.
-    ghost stays: { (keeper : Self) (batches : List (List ℕ)) (file : List ℕ)
+    ghost stays: { reliable → (keeper : Self) (batches : List (List ℕ)) (file : List ℕ)
         → keeps keeper batches
-        → may_leave keeper keeper file
+        → left_since keeper (moment keeper) file
         → stands keeper file batches };
 }
 
@@ -49,13 +61,19 @@ pub trait Keeps {
 pub struct Nowhere;
 
 impl Keeps for Nowhere {
+    ghost reliable = { Unit {0} };
+
     ghost keeps = { λ _ _. Unit {0} };
 
-    ghost may_leave = { λ _ _ _. ⊥ };
+    ghost moment = { λ _. 0 };
+
+    ghost left_since = { λ _ _ _. ⊥ };
 
     ghost stands = { λ _ _ _. Unit {0} };
 
-    ghost stays = { λ _ _ _ _ _. tt };
+    ghost fails = { λ _. ⊥ };
+
+    ghost stays = { λ _ _ _ _ _ _. tt };
 
     fn keep(&mut self, _batches: &[Vec<u8>]) -> Result<(), KeepFault> {
         Ok(())
@@ -64,13 +82,19 @@ impl Keeps for Nowhere {
 
 /// A keeper, if there is one; without it batches end with the process.
 impl<K: Keeps> Keeps for Option<K> {
+    ghost reliable = { K.reliable };
+
     ghost keeps = { keeps_of K.keeps };
 
-    ghost may_leave = { may_leave_of K.may_leave };
+    ghost moment = { moment_of K.moment };
+
+    ghost left_since = { left_since_of K.left_since };
 
     ghost stands = { stands_of K.stands };
 
-    ghost stays = { option_stays K.keeps K.may_leave K.stands K.stays };
+    ghost fails = { K.fails };
+
+    ghost stays = { λ reliable. option_stays K.keeps K.moment K.left_since K.stands (K.stays reliable) };
 
     fn keep(&mut self, batches: &[Vec<u8>]) -> Result<(), KeepFault> {
         match self {

@@ -1,13 +1,14 @@
 ghost use Rattle.std.specs.Prelude.{◌≡◌, ◌↔◌, ◌⊎◌, ◌+◌, ◌≤◌, ◌<◌, ◌++◌, ℕ, List, [], ◌∷◌, drop, length, take};
-ghost use Rattle.std.specs.Prelude.{IsSome, IfOk, IsTrue, MatchBool, MatchResult, OnErr, OnOk};
+ghost use Rattle.std.specs.Prelude.{IsSome, IfOk, IsErrOf, IsTrue, MatchBool, MatchResult, OnErr, OnOk};
 ghost use Rattle.std.specs.VecDeque.{deque_len, deque_capacity};
-ghost use mathlib.Core.List.{IsPrefix};
 ghost use Rattle.sharing.specs.Sharing.{after};
 ghost use Rattle.batches.specs.Batch.{accepted};
 ghost use Rattle.history.specs.declared.prefix.TheConstants.{MAX_HISTORY};
 ghost use Rattle.journal.specs.Texts.{texts_of};
+ghost use Rattle.keepers.specs.Crashes.{LeavesOnly};
+ghost use Rattle.keepers.specs.declared.cause.LogCause.TheVariants.{Overtaken};
 ghost use Rattle.mapshare.specs.Admin.{HasAccepted, HasRetried, HasSubmitted, IsAccepted, IsIdle, IsPublished, all_of, with_batch, with_batches};
-ghost use Rattle.mapshare.specs.Kept.{HasKept};
+ghost use Rattle.mapshare.specs.Kept.{HasKept, StandsWithAccepted};
 ghost use Rattle.mapshare.specs.Queue.{IsChain};
 
 use crate::checking::{Accepted, check, keep_and_copy};
@@ -21,7 +22,7 @@ use left_right::Absorb;
 use mapmachine::{BatchError, BatchFault, Machine};
 use std::alloc::{AllocError, Global};
 use std::collections::VecDeque;
-use std::marker::Model;
+use std::marker::{Model, PhantomData};
 use std::slice::from_ref;
 use std::sync::Wait;
 
@@ -62,8 +63,9 @@ pub(crate) struct UnwrittenHistory<S: Sharing> {
     pub prefix: Prefix<S>,
 }
 
-/// The administrator of a shared map. Contracts see it as the batches that are published and pending.
-pub struct Admin<S: Sharing>
+/// The administrator of a shared map whose batches are kept by a `K`: only one of that type can have it accept a batch, and none is
+/// published that wasn't accepted so. Contracts see it as the batches that are published and pending.
+pub struct Admin<S: Sharing, K>
 where
     Replica<S>: Absorb<Replica<S>, State = ReplicaValue>,
     Ruled<S>: Protocol<Replica<S>, View>,
@@ -76,9 +78,10 @@ where
     checked: Machine,
     published: Prefix<S>,
     last: Prefix<S>,
+    kept_by: PhantomData<K>,
 }
 
-impl<S: Sharing> Model for Admin<S>
+impl<S: Sharing, K> Model for Admin<S, K>
 where
     Replica<S>: Absorb<Replica<S>, State = ReplicaValue>,
     Ruled<S>: Protocol<Replica<S>, View>,
@@ -176,7 +179,7 @@ fn show_waiting<S: Sharing, R: Wait>(
     }
 }
 
-impl<S: Sharing> Admin<S> {
+impl<S: Sharing, K> Admin<S, K> {
     // The administrator of a map that was just opened.
     pub(crate) fn new(
         alloc: Global,
@@ -198,6 +201,7 @@ impl<S: Sharing> Admin<S> {
             checked,
             published: prefix.copy(),
             last: prefix,
+            kept_by: PhantomData,
         }
     }
 
@@ -224,56 +228,6 @@ impl<S: Sharing> Admin<S> {
         Receipt::new(self.published.copy(), self.checked.sequence())
     }
 
-    /// Accepts batches: each is checked in the state after all that were accepted before it. Those before the first that isn't accepted are kept, by
-    /// one sync, and are the last that are pending then; `retry` publishes them. Where memory is refused, none of them may be accepted. Where none is
-    /// accepted, the keeper isn't called.
-    ///
-    /// The error is that some of them may be kept, and that nothing was published. Nothing may be submitted after it.
-    pub fn accept_kept<K: Keeps>(
-        &mut self,
-        keeper: &mut K,
-        batches: &[Vec<u8>],
-    ) -> Result<Accepted, KeepFailed>
-        requires ready { (kept : List (List ℕ)) × K.keeps keeper.old kept }
-        ensures accepted { IfOk result (λ accepted. HasAccepted S.opening self.old (texts_of batches.now) accepted self.new) }
-        ensures failed { OnErr result ((count : ℕ) × (1 ≤ count) × (count ≤ length batches.now)
-            × IsAccepted S.opening (with_batches (take count (texts_of batches.now)) self.old) × (self.new ≡ self.old)) }
-        ensures kept { (kept : List (List ℕ)) → K.keeps keeper.old kept
-            → IfOk result (λ accepted. K.keeps keeper.new (kept ++ take accepted.count (texts_of batches.now))) }
-        ensures unkept { IfOk result (λ accepted. accepted.count ≡ 0 → keeper.new ≡ keeper.old) }
-
-        // A crash at any moment leaves the batches, and after them the first of these, which are accepted.
-        ensures any_moment { (kept : List (List ℕ)) → K.keeps keeper.old kept → (file : List ℕ) → K.may_leave keeper.old keeper.new file
-            → (first : List (List ℕ)) × IsPrefix first (texts_of batches.now) × IsAccepted S.opening (with_batches first self.old)
-            × K.stands keeper.old file (kept ++ first) }
-    {
-        let room = room_for_one(&mut self.queue, &self.last);
-        let (accepted, last) = check(&self.checked, room, batches);
-        let Some(checked) = last else {
-            return Ok(accepted);
-        };
-        let first = &batches[..accepted.count];
-        let machine = match keep_and_copy(&checked, keeper, first) {
-            Ok(machine) => machine,
-            Err(KeepFault::NoMemory) => return Ok(Accepted::out_of_memory()),
-            Err(KeepFault::Failed(cause)) => return Err(KeepFailed { cause }),
-        };
-        let mut prefix = self.last.copy();
-        if !add_all(&mut prefix, &self.history, first) {
-            return Err(KeepFailed {
-                cause: LogCause::Other,
-            });
-        }
-        let replica = Replica {
-            machine,
-            prefix: prefix.copy(),
-        };
-        self.queue.push_back_reserved(replica);
-        self.checked = checked;
-        self.last = prefix;
-        Ok(accepted)
-    }
-
     // Shows readers all pending batches, and returns whether it did.
     fn publish<R: Wait>(self, rt: &R) -> (Self, bool)
         ensures { MatchBool result.1 (IsPublished self result.0.published result.0) (result.0 ≡ self) }
@@ -285,6 +239,7 @@ impl<S: Sharing> Admin<S> {
             checked,
             published,
             last,
+            kept_by,
         } = self;
         let (writer, done) = show_waiting(rt, writer, &mut queue, &last);
         let admin = Admin {
@@ -294,60 +249,9 @@ impl<S: Sharing> Admin<S> {
             checked,
             published: if done { last.copy() } else { published },
             last,
+            kept_by,
         };
         (admin, done)
-    }
-
-    /// Submits a batch: it is checked in the state after all batches that were accepted. One without a fault is accepted, and
-    /// then all pending batches are published at once. The call waits for readers that still read the older copy.
-    pub fn submit<R: Wait>(self, rt: &R, batch: Vec<u8>) -> (Self, Submitted<S>)
-        ensures submitted { HasSubmitted S.opening self batch.items result.1 result.0 }
-    {
-        let mut nowhere = Nowhere;
-        match self.submit_kept(rt, &mut nowhere, batch) {
-            (admin, Ok(submitted)) => (admin, submitted),
-            (admin, Err(_)) => (admin, Submitted::NoMemory),
-        }
-    }
-
-    /// Submits a batch as `submit` does, and keeps it between its check and its publishing. One that is accepted is kept before
-    /// anything is published or reported, and one that isn't accepted is never kept.
-    ///
-    /// The error is that the batch may be kept or not, and that nothing was published. Nothing may be submitted after it.
-    pub fn submit_kept<K: Keeps, R: Wait>(
-        mut self,
-        rt: &R,
-        keeper: &mut K,
-        batch: Vec<u8>,
-    ) -> (Self, Result<Submitted<S>, KeepFailed>)
-        requires ready { (batches : List (List ℕ)) × K.keeps keeper.old batches }
-        ensures submitted { MatchResult result.1 (λ submitted. HasSubmitted S.opening self batch.items submitted result.0)
-            (λ _. IsAccepted S.opening (with_batch batch.items self) × (result.0 ≡ self)) }
-
-        // It is kept exactly where it is published or held.
-        ensures kept { (batches : List (List ℕ)) → K.keeps keeper.old batches
-            → IfOk result.1 (λ submitted. HasKept K.keeps keeper.old batches batch.items submitted keeper.new) }
-
-        // A crash at any moment leaves the batches, with this one, where it is accepted, or without it.
-        ensures any_moment { (batches : List (List ℕ)) → K.keeps keeper.old batches → (file : List ℕ) → K.may_leave keeper.old keeper.new file
-            → K.stands keeper.old file batches
-            ⊎ (IsAccepted S.opening (with_batch batch.items self) × K.stands keeper.old file (batches ++ batch.items ∷ [])) }
-    {
-        let refused = match self.accept_kept(keeper, from_ref(&batch)) {
-            Ok(accepted) => accepted.refused,
-            Err(failed) => return (self, Err(failed)),
-        };
-        match refused {
-            None => {}
-            Some(BatchError::Fault(fault)) => return (self, Ok(Submitted::Refused(fault))),
-            Some(BatchError::NoMemory) => return (self, Ok(Submitted::NoMemory)),
-        }
-        let (admin, done) = self.publish(rt);
-        if done {
-            let receipt = admin.receipt();
-            return (admin, Ok(Submitted::Published(receipt)));
-        }
-        (admin, Ok(Submitted::Held))
     }
 
     /// Publishes the pending batches, if there are any. It waits for readers that still read the older copy.
@@ -375,7 +279,117 @@ impl<S: Sharing> Admin<S> {
             checked: _checked,
             published: _published,
             last: _last,
+            kept_by: _kept_by,
         } = self;
         let _edition = writer.take(rt);
+    }
+}
+
+impl<S: Sharing, K: Keeps> Admin<S, K> {
+    /// Accepts batches: each is checked in the state after all that were accepted before it. Those before the first that isn't accepted are kept, by
+    /// one sync, and are the last that are pending then; `retry` publishes them. Where memory is refused, none of them may be accepted. Where none is
+    /// accepted, the keeper isn't called.
+    ///
+    /// The error is that some of them may be kept, and that nothing was published. Nothing may be submitted after it.
+    pub fn accept_kept(
+        &mut self,
+        keeper: &mut K,
+        batches: &[Vec<u8>],
+    ) -> Result<Accepted, KeepFailed>
+        requires ready { (kept : List (List ℕ)) × K.keeps keeper.old kept }
+        ensures accepted { IfOk result (λ accepted. HasAccepted S.opening self.old (texts_of batches.now) accepted self.new) }
+        ensures failed { OnErr result ((count : ℕ) × (1 ≤ count) × (count ≤ length batches.now)
+            × IsAccepted S.opening (with_batches (take count (texts_of batches.now)) self.old) × (self.new ≡ self.old)) }
+        ensures kept { (kept : List (List ℕ)) → K.keeps keeper.old kept
+            → IfOk result (λ accepted. K.keeps keeper.new (kept ++ take accepted.count (texts_of batches.now))) }
+        ensures unkept { IfOk result (λ accepted. accepted.count ≡ 0 → keeper.new ≡ keeper.old) }
+
+        // A crash at any moment leaves the batches, and after them the first of these, which are accepted.
+        ensures any_moment { K.reliable → (kept : List (List ℕ)) → K.keeps keeper.old kept → LeavesOnly K.moment K.left_since keeper.old keeper.new
+            (StandsWithAccepted S.opening self.old K.stands keeper.old kept (texts_of batches.now)) }
+        ensures same_file { (file : List ℕ) (batches : List (List ℕ)) → K.stands keeper.new file batches → K.stands keeper.old file batches }
+
+        // A call of the keeper failed, or its batches can't follow those of the history.
+        ensures cause { (failed : KeepFailed) → IsErrOf result failed → K.fails failed.cause ⊎ (failed.cause ≡ Overtaken) }
+    {
+        let room = room_for_one(&mut self.queue, &self.last);
+        let (accepted, last) = check(&self.checked, room, batches);
+        let Some(checked) = last else {
+            return Ok(accepted);
+        };
+        let first = &batches[..accepted.count];
+        let machine = match keep_and_copy(&checked, keeper, first) {
+            Ok(machine) => machine,
+            Err(KeepFault::NoMemory) => return Ok(Accepted::out_of_memory()),
+            Err(KeepFault::Failed(cause)) => return Err(KeepFailed { cause }),
+        };
+        let mut prefix = self.last.copy();
+        if !add_all(&mut prefix, &self.history, first) {
+            return Err(KeepFailed {
+                cause: LogCause::Overtaken,
+            });
+        }
+        let replica = Replica {
+            machine,
+            prefix: prefix.copy(),
+        };
+        self.queue.push_back_reserved(replica);
+        self.checked = checked;
+        self.last = prefix;
+        Ok(accepted)
+    }
+
+    /// Submits a batch as `submit` does, and keeps it between its check and its publishing. One that is accepted is kept before
+    /// anything is published or reported, and one that isn't accepted is never kept.
+    ///
+    /// The error is that the batch may be kept or not, and that nothing was published. Nothing may be submitted after it.
+    pub fn submit_kept<R: Wait>(
+        mut self,
+        rt: &R,
+        keeper: &mut K,
+        batch: Vec<u8>,
+    ) -> (Self, Result<Submitted<S>, KeepFailed>)
+        requires ready { (batches : List (List ℕ)) × K.keeps keeper.old batches }
+        ensures submitted { MatchResult result.1 (λ submitted. HasSubmitted S.opening self batch.items submitted result.0)
+            (λ _. IsAccepted S.opening (with_batch batch.items self) × (result.0 ≡ self)) }
+
+        // It is kept exactly where it is published or held.
+        ensures kept { (batches : List (List ℕ)) → K.keeps keeper.old batches
+            → IfOk result.1 (λ submitted. HasKept K.keeps keeper.old batches batch.items submitted keeper.new) }
+
+        // A crash at any moment leaves the batches, with this one, where it is accepted, or without it.
+        ensures any_moment { K.reliable → (batches : List (List ℕ)) → K.keeps keeper.old batches → LeavesOnly K.moment K.left_since keeper.old keeper.new
+            (λ file. K.stands keeper.old file batches
+            ⊎ (IsAccepted S.opening (with_batch batch.items self) × K.stands keeper.old file (batches ++ batch.items ∷ []))) }
+    {
+        let refused = match self.accept_kept(keeper, from_ref(&batch)) {
+            Ok(accepted) => accepted.refused,
+            Err(failed) => return (self, Err(failed)),
+        };
+        match refused {
+            None => {}
+            Some(BatchError::Fault(fault)) => return (self, Ok(Submitted::Refused(fault))),
+            Some(BatchError::NoMemory) => return (self, Ok(Submitted::NoMemory)),
+        }
+        let (admin, done) = self.publish(rt);
+        if done {
+            let receipt = admin.receipt();
+            return (admin, Ok(Submitted::Published(receipt)));
+        }
+        (admin, Ok(Submitted::Held))
+    }
+}
+
+impl<S: Sharing> Admin<S, Nowhere> {
+    /// Submits a batch: it is checked in the state after all batches that were accepted. One without a fault is accepted, and
+    /// then all pending batches are published at once. The call waits for readers that still read the older copy.
+    pub fn submit<R: Wait>(self, rt: &R, batch: Vec<u8>) -> (Self, Submitted<S>)
+        ensures submitted { HasSubmitted S.opening self batch.items result.1 result.0 }
+    {
+        let mut nowhere = Nowhere;
+        match self.submit_kept(rt, &mut nowhere, batch) {
+            (admin, Ok(submitted)) => (admin, submitted),
+            (admin, Err(_)) => (admin, Submitted::NoMemory),
+        }
     }
 }

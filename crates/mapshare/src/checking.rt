@@ -1,10 +1,11 @@
 //! Checking batches one after the other, and keeping those that are accepted.
 
-ghost use Rattle.std.specs.Prelude.{◌≡◌, ◌≤◌, ◌++◌, ℕ, List, Some, Ok, Err, length, IfOk, IfErr, OnOk, MatchOption};
-ghost use mathlib.Core.List.{IsPrefix};
+ghost use Rattle.std.specs.Prelude.{◌≡◌, ◌≤◌, ◌++◌, ℕ, List, Some, Ok, Err, length, IfOk, IfErr, IsErrOf, OnOk, MatchOption};
 ghost use Rattle.batches.specs.Batch.{IsBatchErrorOf, batched};
 ghost use Rattle.batches.specs.declared.fault.BatchError.TheVariants.{NoMemory};
 ghost use Rattle.journal.specs.Texts.{texts_of};
+ghost use Rattle.keepers.specs.Crashes.{LeavesOnly, StandsWithFirst};
+ghost use Rattle.keepers.specs.declared.cause.LogCause.{LogCause};
 ghost use Rattle.keepers.specs.declared.keeps.KeepFault.TheVariants as keep_fault;
 ghost use Rattle.mapshare.specs.Checking.{HasChecked, last_of};
 
@@ -95,9 +96,11 @@ pub(crate) fn keep_and_copy<K: Keeps>(
     requires ready { (kept : List (List ℕ)) × K.keeps keeper.old kept }
     ensures copied { IfOk result (λ copy. copy ≡ machine.now) }
     ensures kept { OnOk result ((kept : List (List ℕ)) → K.keeps keeper.old kept → K.keeps keeper.new (kept ++ texts_of batches.now)) }
-    ensures any_moment { (kept : List (List ℕ)) → K.keeps keeper.old kept → (file : List ℕ) → K.may_leave keeper.old keeper.new file
-        → (first : List (List ℕ)) × IsPrefix first (texts_of batches.now) × K.stands keeper.old file (kept ++ first) }
+    ensures any_moment { K.reliable → (kept : List (List ℕ)) → K.keeps keeper.old kept
+        → LeavesOnly K.moment K.left_since keeper.old keeper.new (StandsWithFirst K.stands keeper.old kept (texts_of batches.now)) }
+    ensures same_file { (file : List ℕ) (batches : List (List ℕ)) → K.stands keeper.new file batches → K.stands keeper.old file batches }
     ensures no_memory { result ≡ Err keep_fault.NoMemory → keeper.new ≡ keeper.old }
+    ensures failed { (cause : LogCause) → IsErrOf result (keep_fault.Failed cause) → K.fails cause }
 {
     let Ok(copy) = machine.copy() else {
         return Err(KeepFault::NoMemory);

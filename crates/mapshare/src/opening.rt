@@ -73,14 +73,14 @@ fn readers_of<S: Sharing>(
     Ok(readers)
 }
 
-/// Shares a map: it gives the administrator and so many readers. The caller names the sharing, by `S`, and hands over a
-/// history of its own for it. The machine is copied three times; the copies share its features.
-pub fn open<S: Sharing, R: AllocGlobal + Wait>(
+/// Shares a map: it gives the administrator and so many readers. The caller names the sharing, by `S`, and the type of what keeps its
+/// batches, by `K`, and hands over a history of its own for it. The machine is copied three times; the copies share its features.
+pub fn open<S: Sharing, K, R: AllocGlobal + Wait>(
     rt: &R,
     blank: Blank,
     machine: &Machine,
     count: usize,
-) -> Result<(Admin<S>, Vec<Reader<S>>), ShareFault>
+) -> Result<(Admin<S, K>, Vec<Reader<S>>), ShareFault>
     requires history { blank.seen.book ≡ S.book }
     requires opening { machine.now ≡ S.opening }
     ensures admin { IfOk result (λ r. r.0 ≡ record { published = []; pending = [] }) }

@@ -35,28 +35,33 @@ all-remain (Some n) = ap Some (omega arith)
 pub none-accepted : (before : Option (List PortEvent)) (remaining : Option ℕ) → HasAccepted before before remaining remaining []
 none-accepted before remaining = record { noted = Notes-nil before; fewer = all-remain remaining }
 
+-- a call opened a connection
+abbrev pub opened_by : {C F : Type 0} → Result (Option C) F → ℕ
+opened_by (Ok None) = 0
+opened_by (Ok (Some connection)) = 1
+opened_by (Err failed) = 0
+
 -- one more call was made
-more-accepted : {C F : Type 0} (first before after : Option (List PortEvent)) (remaining left later : Option ℕ) (events : List PortEvent) (called : Result (Option C) F) → HasAccepted first before remaining left events
-    → HasCalled before after left later called → (all : List PortEvent) × HasAccepted first after remaining later all
-more-accepted first before after remaining left later events (Ok None) accepted (same, still, none) =
-    (events, record { noted = subst (λ (e : Option (List PortEvent)). Notes first e events) (sym same) accepted.noted; fewer = still ∙ accepted.fewer })
-more-accepted first before after remaining left later events (Ok (Some connection)) accepted (noted, more, fewer) = (
+pub one-more : {C F : Type 0} (first before after : Option (List PortEvent)) (remaining left later : Option ℕ) (events : List PortEvent) (called : Result (Option C) F) → HasAccepted first before remaining left events
+    → HasCalled before after left later called → (all : List PortEvent) × HasAccepted first after remaining later all × (count_opened all ≡ count_opened events + opened_by called)
+one-more first before after remaining left later events (Ok None) accepted (same, still, none) = (
+  events,
+  record { noted = subst (λ (e : Option (List PortEvent)). Notes first e events) (sym same) accepted.noted; fewer = still ∙ accepted.fewer },
+  omega arith,
+)
+one-more first before after remaining left later events (Ok (Some connection)) accepted (noted, more, fewer) = (
   events ++ Opened ∷ [],
   record {
     noted = Notes-trans first before after events (Opened ∷ []) accepted.noted noted;
     fewer = fewer ∙ ap (option_map (λ n. n - 1)) accepted.fewer ∙ one-fewer remaining events;
   },
+  count-append events (Opened ∷ []),
 )
-more-accepted first before after remaining left later events (Err failed) accepted (noted, still) = (
+one-more first before after remaining left later events (Err failed) accepted (noted, still) = (
   events ++ Failed ∷ [],
   record {
     noted = Notes-trans first before after events (Failed ∷ []) accepted.noted noted;
     fewer = still ∙ accepted.fewer ∙ none-fewer remaining events;
   },
+  count-append events (Failed ∷ []),
 )
-
--- the same by what is called of a port where no call may be made
-pub next-accepted : {Q C F : Type 0} (first old new : Q) (log : Q → Option (List PortEvent)) (left : Q → Option ℕ) (called : Option (Result (Option C) F)) → ((events : List PortEvent) × HasAccepted (log first) (log old) (left first) (left old) events)
-    → MatchOption called (new ≡ old) (HasCalled (log old) (log new) (left old) (left new)) → (events : List PortEvent) × HasAccepted (log first) (log new) (left first) (left new) events
-next-accepted first old new log left None accepted same = rw same accepted
-next-accepted first old new log left (Some called) (events, accepted) is = more-accepted (log first) (log old) (log new) (left first) (left old) (left new) events called accepted is

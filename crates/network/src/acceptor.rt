@@ -30,6 +30,7 @@ impl Press {
         W: Wakes + Drop,
         ensures last { result ≡ self.is_last }
         ensures threads { workers.new.threads ≡ workers.old.threads }
+        ensures count { workers.new.count ≡ workers.old.count }
     {
         let Press { is_last } = self;
         workers.press(rt);

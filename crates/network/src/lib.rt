@@ -1,5 +1,4 @@
-//! What a service needs of its network, whatever it serves: ports, their connections, the times of these, the log's thread, and the signals
-//! between threads.
+//! What a service needs of its network, whatever it serves: ports, their connections, the times of these, and the log's thread.
 //!
 //! Proved: `Accepting::accept` gives connections up to the last that is requested, and `Acceptor::follow` states what follows on each call.
 //! `hang_up` closes the sending side of a connection after its answer and reads what still comes, up to a limit. `timeouts_of` states how
@@ -19,11 +18,9 @@ mod opening;
 mod port;
 mod ports;
 mod shared_stream;
-mod signals;
 mod socket_poller;
 mod socket_transport;
 mod sockets;
-mod starting;
 mod timed;
 
 pub use accepting::Accepting;
@@ -39,9 +36,7 @@ pub use logging::{Log, LoggedPoller, Logs, start_log};
 pub use opening::{NothingLeft, Opens, Sides};
 pub use port::{AcceptFailed, AddressFault, Port};
 pub use ports::{Administrators, Clients, IntoTransport, Network, PortFor, Ports, Runtime, Until};
-pub use signals::{ClientSignals, Signals, StopSignal, Wakers, signals_of};
 pub use socket_poller::{PollWaker, SocketPoller};
 pub use socket_transport::SocketTransport;
 pub use sockets::{SocketConnection, SocketPort, SocketWaker};
-pub use starting::Starting;
 pub use timed::{AnswerWritten, TimedReader, TimedWriter};

@@ -1,4 +1,4 @@
-ghost use Rattle.std.specs.Prelude.{◌≡◌, [], ◌∷◌, IfOk, IfSome, OnErr, OnOk};
+ghost use Rattle.std.specs.Prelude.{◌≡◌, [], ◌∷◌, IfOk, IfSome, OnErr, OnOk, true};
 ghost use Rattle.network.specs.Ports.{Failed, Opened, Notes};
 
 use mapdefs::Text;
@@ -23,11 +23,14 @@ pub enum AddressFault {
 
 /// A port that gives connections of the type C.
 pub trait Port<C> {
-    ghost use Rattle.std.specs.Prelude.{ℕ, List, Option};
+    ghost use Rattle.std.specs.Prelude.{ℕ, List, Option, Bool};
     ghost use Rattle.network.specs.Ports.{PortEvent};
 
     // The events so far, where they are known.
     ghost log: { Self → Option (List PortEvent) };
+
+    // Whether it keeps a descriptor for the connections that it opens.
+    ghost keeps_reserve: { Self → Bool };
 
     // The text of the address, where it is known.
     ghost address: { Self → Option (List ℕ) };
@@ -38,7 +41,8 @@ pub trait Port<C> {
 
     /// From now on the port keeps a descriptor for the connections that it opens, so that one is served where the system has none left.
     fn keep_reserve(&mut self)
-        ensures { log self.new ≡ log self.old };
+        ensures log { log self.new ≡ log self.old }
+        ensures kept { keeps_reserve self.new ≡ true };
 
     /// Waits for the next connection.
     fn accept(&mut self) -> Result<C, AcceptFailed>

@@ -90,6 +90,8 @@ impl<K, P> PortFor<K, P> {
 impl<C, K, P: Port<C>> Port<C> for PortFor<K, P> {
     ghost log = { λ p. P.log p.port };
 
+    ghost keeps_reserve = { λ p. P.keeps_reserve p.port };
+
     ghost address = { λ p. P.address p.port };
 
     fn address(&self, alloc: Global) -> Result<Text, AddressFault> {

@@ -1,4 +1,4 @@
-ghost use Rattle.std.specs.Prelude.{None};
+ghost use Rattle.std.specs.Prelude.{◌≡◌, None};
 
 use crate::closing::hang_up;
 use crate::limits::{DRAIN_SECONDS, FAILURE_MILLISECONDS, Waits};
@@ -67,7 +67,9 @@ impl SocketPort {
     }
 
     // Takes a descriptor in reserve, where the port keeps one and has none.
-    fn take_reserve(&mut self) {
+    fn take_reserve(&mut self)
+        ensures { self.new.keeps_reserve ≡ self.old.keeps_reserve }
+    {
         if self.keeps_reserve && self.reserve.is_none() {
             self.reserve = self.listener.try_clone().ok();
         }
@@ -94,6 +96,8 @@ impl SocketPort {
 
 impl Port<SocketConnection> for SocketPort {
     ghost log = { λ _. None };
+
+    ghost keeps_reserve = { λ p. p.keeps_reserve };
 
     ghost address = { λ _. None };
 

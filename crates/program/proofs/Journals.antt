@@ -1,10 +1,12 @@
 -- Why a journal isn't opened, without the log's own failure.
 use Rattle.std.proofs.lemmas.Bool.Decides.{nat_tests}
-use Rattle.std.proofs.Common.{ap, arith, subst, sym, ◌∙◌, ◌≡◌, ◌≢◌, ◌&&◌, ◌==◌, refl, ℕ, zero, suc, Bool, true, false, not, List, ◌++◌, Option, None, Some}
+use Rattle.std.proofs.Common.{⊎_elim, inl, inr, ap, arith, subst, sym, ◌∙◌, ◌≡◌, ◌≢◌, ◌&&◌, ◌==◌, refl, ℕ, zero, suc, Bool, true, false, not, List, ◌++◌, Option, None, Some}
 use Rattle.std.specs.Prelude.{MatchBool}
 use Rattle.journalfile.proofs.Skipping.{empties, empties_short}
 use Rattle.journalfile.specs.Keeping.{JournalHas}
 use Rattle.keepers.specs.Keeping.{keeps_of}
+use Rattle.keepers.specs.declared.cause.LogCause.{LogCause}
+use Rattle.keepers.specs.declared.keeps.Keeps.{Ghosts as Keeps}
 use Rattle.journalfile.specs.declared.writing.Journal.{Journal}
 use Rattle.batches.specs.Batch.{State}
 use Rattle.journal.specs.Name.{IsBounded, skipped_of}
@@ -16,7 +18,7 @@ use Rattle.journalfile.specs.declared.recovery.RecoverFault.TheVariants as recov
 use Rattle.journalfile.specs.Settled.{IsSettled}
 use Rattle.journalfile.specs.declared.checkpoint.CompactedJournal.{CompactedJournal}
 use Rattle.console.specs.Console.{Outcome, WriterState}
-use Rattle.service.specs.Serving.{ServedValue}
+use Rattle.service.specs.Serving.{NamesCause, ServedValue}
 use Rattle.program.specs.Journals.{JournalView, KeepsAll, KeepsState, erased, fault_of}
 use Rattle.program.specs.Endings.{EndingValue, unserved}
 use Rattle.program.specs.Performing.{Begun, HostView, IsServed, ServesNothing}
@@ -77,33 +79,47 @@ module _ {L : Type 0} (view : JournalView L) (recognises : Journal L → Type 0)
   abbrev keeps : Option (Journal L) → List (List ℕ) → Type 0
   keeps = keeps_of (λ journal batches. view.reliable → recognises journal × IsSettled view.content view.may_leave journal batches)
 
-  has-kept : (keeper : Option (Journal L)) (some batches : List (List ℕ)) → keeps keeper some → KeepsAll view keeper batches → keeps keeper batches
+  pub has-kept : (keeper : Option (Journal L)) (some batches : List (List ℕ)) → keeps keeper some → KeepsAll view keeper batches → keeps keeper batches
   has-kept None some batches ready all = tt
   has-kept (Some journal) some batches ready all = λ reliable. ((ready reliable).0, all reliable)
 
-  kept-all : (keeper : Option (Journal L)) (batches : List (List ℕ)) → keeps keeper batches → KeepsAll view keeper batches
+  pub kept-all : (keeper : Option (Journal L)) (batches : List (List ℕ)) → keeps keeper batches → KeepsAll view keeper batches
   kept-all None batches kept = tt
   kept-all (Some journal) batches kept = λ reliable. (kept reliable).1
-
-  pub keeps-all : (keeper last : Option (Journal L)) (some batches more : List (List ℕ)) → keeps keeper some → (keeps keeper batches → keeps last (batches ++ more))
-      → KeepsAll view keeper batches → KeepsAll view last (batches ++ more)
-  keeps-all keeper last some batches more ready kept all = kept-all last (batches ++ more) (kept (has-kept keeper some batches ready all))
 
 -- a journal that is compacted and keeps batches leads to their state
 module _ {L : Type 0} (view : JournalView L) (recognises : Type 0) where
   abbrev keeps-state : CompactedJournal L → List (List ℕ) → Type 0
   keeps-state compacted batches = view.reliable → recognises × JournalHas view.content view.may_leave compacted.journal batches
 
-  pub keeps-states : (keeper last : CompactedJournal L) (some batches more : List (List ℕ)) → keeps-state keeper some → (keeps-state keeper batches → keeps-state last (batches ++ more))
-      → KeepsState view keeper batches → KeepsState view last (batches ++ more)
-  keeps-states keeper last some batches more ready kept all = λ reliable. (kept (λ here. ((ready here).0, all here)) reliable).1
+  pub has-state : (keeper : CompactedJournal L) (some batches : List (List ℕ)) → keeps-state keeper some → KeepsState view keeper batches → keeps-state keeper batches
+  has-state keeper some batches ready all = λ reliable. ((ready reliable).0, all reliable)
+
+  pub state-of : (keeper : CompactedJournal L) (batches : List (List ℕ)) → keeps-state keeper batches → KeepsState view keeper batches
+  state-of keeper batches kept = λ reliable. (kept reliable).1
+
+-- a cause that is named stays one, where more calls fail
+names-alike : (some more : LogCause → Type 0) → ((cause : LogCause) → some cause → more cause) → (found : Option LogCause) → NamesCause some found → NamesCause more found
+names-alike some more in_more None is = tt
+names-alike some more in_more (Some cause) is = ⊎_elim (λ w. inl (in_more cause w)) (λ w. inr w) is
 
 -- a keeper that keeps all of some batches, since another meaning of keeping them is enough, was served alike
-pub served-alike : {P L K : Type 0} (host : HostView P L) (keeps more : K → List (List ℕ) → Type 0) (begun : Begun K) (served : ServedValue P K) (old new : WriterState)
-    → ((batches : List (List ℕ)) → (keeps begun.keeper batches → keeps served.last (batches ++ served.accepted)) → more begun.keeper batches → more served.last (batches ++ served.accepted))
-    → IsServed host keeps begun served old new → IsServed host more begun served old new
-served-alike host keeps more begun served old new alike is =
-    record { began = is.began; listens = is.listens; listens_too = is.listens_too; took = is.took; kept = λ ends batches. alike batches (is.kept ends batches); announced = is.announced }
+pub served-alike : {P L K : Type 0} (host : HostView P L) (known : Keeps K) (keeps : K → List (List ℕ) → Type 0) (fails : LogCause → Type 0) (begun : Begun K) (served : ServedValue P K) (old new : WriterState)
+    → ((batches : List (List ℕ)) → keeps begun.keeper batches → known.keeps begun.keeper batches)
+    → ((batches : List (List ℕ)) → known.keeps served.last batches → keeps served.last batches)
+    → ((cause : LogCause) → known.fails cause → fails cause)
+    → IsServed host known begun served old new → IsServed host (record known { keeps = keeps; fails = fails }) begun served old new
+served-alike host known keeps fails begun served old new before later failed is = record {
+  began = is.began;
+  listens = is.listens;
+  listens_too = is.listens_too;
+  took = is.took;
+  kept = λ ends batches has. later (batches ++ served.accepted) (is.kept ends batches (before batches has));
+  crash = λ reliable batches has. is.crash reliable batches (before batches has);
+  failed = names-alike known.fails fails failed served.cause is.failed;
+  answered = is.answered;
+  announced = is.announced;
+}
 
 -- a settled journal that is compacted has its own batches, and as many empty ones before them as were left out of it
 pub settled-has : {L : Type 0} (content : L → List ℕ) (may_leave : L → List ℕ → Type 0) (journal : Journal L) (own : List (List ℕ))

@@ -25,6 +25,7 @@ uncompacted_message cause.NoName = codes "each name of a new file is taken, up t
 uncompacted_message cause.InUse = codes "it is mounted by itself"
 uncompacted_message cause.NoMemory = codes "out of memory"
 uncompacted_message cause.Unread = codes "a record of it isn't read"
+uncompacted_message cause.Overtaken = codes "the map has other batches"
 uncompacted_message cause.Other = codes "a new file can't be written or renamed"
 
 -- the line that reports it, with the path of the journal

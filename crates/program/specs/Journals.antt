@@ -13,7 +13,9 @@ use Rattle.journal.specs.Reading.{StandsFor}
 use Rattle.journal.specs.declared.header.HeaderFault.TheVariants as header_fault
 use Rattle.journal.specs.declared.name.JournalName.{JournalName}
 use Rattle.compaction.specs.Compacted.{skipping}
-use Rattle.journalfile.specs.Keeping.{JournalHas}
+use Rattle.keepers.specs.Keeping.{left_since_of, moment_of, stands_of}
+use Rattle.keepers.specs.declared.keeps.Keeps.{Ghosts as Keeps}
+use Rattle.journalfile.specs.Keeping.{FileHas, JournalHas}
 use Rattle.journalfile.specs.Recovery.{IsFaultOf, IsNameFault}
 use Rattle.journalfile.specs.Settled.{IsSettled}
 use Rattle.journalfile.specs.declared.checkpoint.Checkpoint.{Checkpoint}
@@ -33,17 +35,28 @@ use Rattle.program.specs.declared.keeping.JournalFault.TheVariants as fault
 use Rattle.program.specs.declared.host.OpenFault.{OpenFault}
 use Rattle.program.specs.declared.host.OpenFault.TheVariants as log_fault
 
--- the known properties of the journals of a host: which logs it gives for a path, whether they are reliable, their bytes, and the bytes that a crash
--- may leave of them
+-- the known properties of the journals of a host: which logs it gives for a path, whether they are reliable, their bytes, the bytes that a crash
+-- may leave of them now, the moment, and the bytes that one may have left since; and the failures of their calls
 pub record JournalView (L : Type 0) : Type 1 where
   pub gives : List ℕ → L → Type 0
   pub reliable : Type 0
   pub content : L → List ℕ
   pub may_leave : L → List ℕ → Type 0
+  pub moment : L → ℕ
+  pub left_since : L → ℕ → List ℕ → Type 0
+  pub Failure : Type 0
 
 -- those of a host, by the logs that it gives and what these say
 abbrev pub journal_view : {H L F : Type 0} → (H → List ℕ → L → Type 0) → Log L F → H → JournalView L
-journal_view journal log h = record { gives = journal h; reliable = log.reliable; content = log.content; may_leave = log.may_leave }
+journal_view {H} {L} {F} journal log h = record {
+  gives = journal h;
+  reliable = log.reliable;
+  content = log.content;
+  may_leave = log.may_leave;
+  moment = log.moment;
+  left_since = log.left_since;
+  Failure = F;
+}
 
 -- a journal has these batches, where its log is reliable; without a journal nothing is required
 abbrev pub KeepsAll : {L : Type 0} → JournalView L → Option (Journal L) → List (List ℕ) → Type 0
@@ -53,6 +66,28 @@ KeepsAll view (Some journal) batches = view.reliable → IsSettled view.content 
 -- a journal that is compacted has these batches, or fewer that lead to the same state, where its log is reliable
 abbrev pub KeepsState : {L : Type 0} → JournalView L → CompactedJournal L → List (List ℕ) → Type 0
 KeepsState view compacted batches = view.reliable → JournalHas view.content view.may_leave compacted.journal batches
+
+-- what is known of a journal that keeps batches, or of none: a call of it fails where one of its log did
+abbrev pub whole_keeper : {L : Type 0} → JournalView L → Keeps (Option (Journal L))
+whole_keeper view = record {
+  reliable = view.reliable;
+  keeps = KeepsAll view;
+  moment = moment_of (λ journal. view.moment journal.log);
+  left_since = left_since_of (λ journal. view.left_since journal.log);
+  stands = stands_of (λ journal. StandsFor journal.name);
+  fails = λ cause. view.Failure;
+}
+
+-- the same of one that is compacted
+abbrev pub compacted_keeper : {L : Type 0} → JournalView L → Keeps (CompactedJournal L)
+compacted_keeper view = record {
+  reliable = view.reliable;
+  keeps = KeepsState view;
+  moment = λ compacted. view.moment compacted.journal.log;
+  left_since = λ compacted. view.left_since compacted.journal.log;
+  stands = λ compacted. FileHas compacted.journal.name.fingerprint;
+  fails = λ cause. view.Failure;
+}
 
 -- the part of a digest for a file that a mapfile uses: its name and its bytes
 abbrev pub given_message : FileBytes → List ℕ

@@ -4,7 +4,8 @@ use Rattle.std.specs.Io.KnownBytes.{Keeps}
 use Rattle.commandline.specs.declared.subcommand.Command.{Command}
 use Rattle.commandline.specs.declared.subcommand.Service.{Service}
 use Rattle.commandline.specs.declared.subcommand.Command.TheVariants.{Session, Check, Run, Serve}
-use Rattle.console.specs.Console.{ConsoleState, WriterState, IsReported}
+use Rattle.console.specs.declared.failure.ListenCause.{ListenCause}
+use Rattle.console.specs.Console.{Outcome, ConsoleState, WriterState, IsReported}
 use Rattle.console.specs.declared.failure.Failure.{Failure}
 use Rattle.console.specs.declared.failure.Failure.TheVariants.{JournalFailed, ListenFailed}
 use Rattle.batches.specs.Batch.{State, accepted as accepted_by}
@@ -17,7 +18,7 @@ use Rattle.mapparse.specs.declared.files.FileBytes.{FileBytes}
 use Rattle.journalfile.specs.declared.log.Log.{Ghosts as Log}
 use Rattle.program.specs.declared.host.Files.{Ghosts as Files}
 use Rattle.network.specs.declared.port.Port.{Ghosts as Port}
-use Rattle.program.specs.Journals.{JournalView, journal_view, KeepsAll, KeepsState, checkpoint_of, IsOpened, IsUnopened, ReportsCut, ReportsEnd, failure_of, journal_fault, map_fingerprint}
+use Rattle.program.specs.Journals.{JournalView, journal_view, KeepsState, compacted_keeper, whole_keeper, checkpoint_of, IsOpened, IsUnopened, ReportsCut, ReportsEnd, failure_of, journal_fault, map_fingerprint}
 use Rattle.program.specs.declared.keeping.JournalFault.{JournalFault}
 use Rattle.network.specs.Announcing.{HasAnnounced, IsUnserved}
 use Rattle.subcommands.specs.Folder.{Giving, IsParent}
@@ -25,20 +26,32 @@ use Rattle.subcommands.specs.Mapfiles.{HasReadMapfile, GivesNoMap, ReportsWarnin
 use Rattle.subcommands.specs.Session.{PlaysTo, opened}
 use Rattle.subcommands.specs.declared.unread.UnreadCause.{UnreadCause}
 use Rattle.program.specs.Endings.{EndingValue, unserved, unstarted, ended, ended_compacted}
-use Rattle.service.specs.Serving.{ServedValue}
+use Rattle.keepers.specs.declared.keeps.Keeps.{Ghosts as Keeper}
+use Rattle.service.specs.Serving.{LosesNone, NamesCause, ServedValue, WereServed}
+use Rattle.turns.specs.declared.transport.Transport.{Ghosts as Transport}
 use Rattle.journalfile.specs.declared.checkpoint.CompactedJournal.{CompactedJournal}
 use Rattle.program.specs.Hosts.{gives_in}
 
--- the known properties of a host: the bytes of the file of a path, which ports it gives for a number, the addresses of ports, and journals
+-- the known properties of a host: the bytes of the file of a path, which ports it gives for a number, or why it gives none, the addresses of ports,
+-- journals, and how the clients of a service are served
 pub record HostView (P L : Type 0) : Type 1 where
   pub file : List ℕ → Option (List ℕ)
   pub listens : ℕ → P → Type 0
+  pub refuses : ℕ → ListenCause → Type 0
   pub address : P → Option (List ℕ)
   pub journal : JournalView L
+  pub serves : State → Service → Outcome → Type 0
 
--- those of a host, by the ports and logs that it gives, and what its files, ports and logs say
-abbrev pub host_view : {H F P L C G : Type 0} → Files H F → (H → ℕ → P → Type 0) → (H → List ℕ → L → Type 0) → Port P C → Log L G → H → HostView P L
-host_view files listens journal port log h = record { file = files.file h; listens = listens h; address = port.address; journal = journal_view journal log h }
+-- those of a host, by the ports and logs that it gives, and what its files, ports, logs and transports say
+abbrev pub host_view : {H F P L C G T : Type 0} → Files H F → (H → ℕ → P → Type 0) → (H → ℕ → ListenCause → Type 0) → (H → List ℕ → L → Type 0) → Port P C → Log L G → Transport T → Type 0 → H → HostView P L
+host_view files listens refuses journal port log transport Poller h = record {
+  file = files.file h;
+  listens = listens h;
+  refuses = refuses h;
+  address = port.address;
+  journal = journal_view journal log h;
+  serves = WereServed Poller transport;
+}
 
 -- a machine that is to be served as it begins, the keeper of its batches, and the options
 pub record Begun (K : Type 0) : Type 0 where
@@ -48,46 +61,50 @@ pub record Begun (K : Type 0) : Type 0 where
 
 -- a machine was served as it begins, at the two ports that were listened on. The addresses of the ports were written once, that of clients first. The
 -- machine accepts all batches that were accepted, published or held, one after the other. Unless it ended because the keeper failed, the keeper at the
--- end keeps the batches of the one at the beginning, and then those, in order
-pub record IsServed {P L K : Type 0} (host : HostView P L) (keeps : K → List (List ℕ) → Type 0) (begun : Begun K) (served : ServedValue P K) (old new : WriterState) : Type 0 where
+-- end keeps the batches of the one at the beginning, and then those, in order. Whatever a crash at any moment leaves stands for the batches of the one at
+-- the beginning, and some that are accepted after them. Where it ended because the keeper failed, it did. Its workers answered clients as readers of this map
+pub record IsServed {P L K : Type 0} (host : HostView P L) (known : Keeper K) (begun : Begun K) (served : ServedValue P K) (old new : WriterState) : Type 0 where
   pub began : served ≡ record served { machine = begun.machine; keeper = begun.keeper; service = begun.service }
   pub listens : host.listens begun.service.port served.clients
   pub listens_too : host.listens begun.service.admin_port served.administration
   pub took : IsSome (after accepted_by begun.machine served.accepted)
-  pub kept : (served.outcome ≡ Err JournalFailed → ⊥) → (batches : List (List ℕ)) → keeps begun.keeper batches → keeps served.last (batches ++ served.accepted)
+  pub kept : (served.outcome ≡ Err JournalFailed → ⊥) → (batches : List (List ℕ)) → known.keeps begun.keeper batches → known.keeps served.last (batches ++ served.accepted)
+  pub crash : LosesNone known begun.machine begun.keeper served.last
+  pub failed : NamesCause known.fails served.cause
+  pub answered : host.serves begun.machine begun.service served.outcome
   pub announced : HasAnnounced (host.address served.clients) (host.address served.administration) served.outcome old new
 
--- a kind of keepers: the batches that one keeps, and how a program ends that served with one
+-- a kind of keepers: what is known of them, and how a program ends that served with one
 pub record Keeping (P L K : Type 0) : Type 1 where
-  pub keeps : K → List (List ℕ) → Type 0
+  pub known : Keeper K
   pub ended : ServedValue P K → EndingValue P L
 
 -- a journal, or none
 abbrev pub by_journal : {P L : Type 0} → HostView P L → Keeping P L (Option (Journal L))
-by_journal host = record { keeps = KeepsAll host.journal; ended = ended }
+by_journal host = record { known = whole_keeper host.journal; ended = ended }
 
 -- a journal that is compacted
 abbrev pub by_compacted : {P L : Type 0} → HostView P L → Keeping P L (CompactedJournal L)
-by_compacted host = record { keeps = KeepsState host.journal; ended = ended_compacted }
+by_compacted host = record { known = compacted_keeper host.journal; ended = ended_compacted }
 
 -- nothing was served
 abbrev pub ServesNothing : {P L : Type 0} → EndingValue P L → Type 0
 ServesNothing ending = ending ≡ unserved ending.outcome
 
--- where a port can't be listened on, it is one of these
-abbrev pub NamesPort : (ℕ → Type 0) → Failure → Type 0
-NamesPort these (ListenFailed port cause) = these port
+-- where a port can't be listened on, it is one of these, with its cause
+abbrev pub NamesPort : (ℕ → ListenCause → Type 0) → Failure → Type 0
+NamesPort these (ListenFailed port cause) = these port cause
 NamesPort these failure = Unit {0}
 
--- it is one of the two that were requested
-abbrev pub NamesItsPort : Service → Failure → Type 0
-NamesItsPort service failure = NamesPort (λ port. (port ≡ service.port) ⊎ (port ≡ service.admin_port)) failure
+-- it is one of the two that were requested, which the host refused for that cause
+abbrev pub NamesItsPort : (ℕ → ListenCause → Type 0) → Service → Failure → Type 0
+NamesItsPort refuses service failure = NamesPort (λ port cause. ((port ≡ service.port) ⊎ (port ≡ service.admin_port)) × refuses port cause) failure
 
 -- a machine was served; or a port of it couldn't be listened on, or memory was refused before
 abbrev pub ServesMachine : {P L K : Type 0} → HostView P L → (HostView P L → Keeping P L K) → Begun K → EndingValue P L → WriterState → WriterState → Type 0
 ServesMachine {P} {L} {K} host keeping begun ending old new =
-    (ServesNothing ending × IsUnserved ending.outcome old new × IfErr ending.outcome (NamesItsPort begun.service))
-    ⊎ ((served : ServedValue P K) × (ending ≡ (keeping host).ended served) × IsServed host (keeping host).keeps begun served old new)
+    (ServesNothing ending × IsUnserved ending.outcome old new × IfErr ending.outcome (NamesItsPort host.refuses begun.service))
+    ⊎ ((served : ServedValue P K) × (ending ≡ (keeping host).ended served) × IsServed host (keeping host).known begun served old new)
 
 -- a journal before a service, and as it begins: before it is due, it is as it was. Else it is due at twice its bytes, and has the batches that it had, or
 -- fewer that lead to the same state

@@ -36,6 +36,7 @@ fn uncompacted_message(cause: LogCause) -> &'static str
         LogCause::InUse => "it is mounted by itself",
         LogCause::NoMemory => "out of memory",
         LogCause::Unread => "a record of it isn't read",
+        LogCause::Overtaken => "the map has other batches",
         LogCause::Other => "a new file can't be written or renamed",
     }
 }

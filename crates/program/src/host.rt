@@ -1,4 +1,4 @@
-ghost use Rattle.std.specs.Prelude.{◌≡◌, ℕ, List, IfOk, OnOk};
+ghost use Rattle.std.specs.Prelude.{◌≡◌, ℕ, List, IfErr, IfOk, OnOk};
 ghost use Rattle.journalfile.specs.Settled.{GarblesNoRecord};
 
 use console::ListenCause;
@@ -68,6 +68,7 @@ pub trait Files {
 /// The system on which the program runs: its files, its journals, and its ports.
 pub trait Host: Files + Network {
     ghost use Rattle.std.specs.Prelude.{ℕ, List};
+    ghost use Rattle.console.specs.declared.failure.ListenCause.{ListenCause};
 
     /// The log of a journal.
     type Log: Replaceable + Drop;
@@ -78,9 +79,13 @@ pub trait Host: Files + Network {
     // A port is one that the host gives for a number.
     ghost listens: { Self → ℕ → Self.Port → Type 0 };
 
+    // The host gives no port for a number, for this cause.
+    ghost refuses: { Self → ℕ → ListenCause → Type 0 };
+
     /// Listens on a port by its number, where 0 is one that is free.
     fn listen(&self, number: u16) -> Result<Self::Port, ListenFailed>
-        ensures { IfOk result (λ p. listens self.now number p) };
+        ensures listens { IfOk result (λ p. listens self.now number p) }
+        ensures refuses { IfErr result (λ failed. refuses self.now number failed.cause) };
 
     /// Opens the log of a path, which no other program has at the same time. Where nothing has that path, a log is made with these bytes: it has all
     /// of them, or doesn't exist. Nothing that has the path is replaced. Digests show which bytes of a reliable log a crash has garbled.

@@ -3,6 +3,7 @@ ghost use Rattle.commandline.specs.declared.subcommand.Command.TheVariants.{Sess
 ghost use Rattle.console.specs.Console.{Leaves};
 ghost use Rattle.program.specs.Hosts.{gives_in, left_of};
 ghost use Rattle.program.specs.Journals.{map_fingerprint};
+ghost use Rattle.network.specs.declared.logging.LoggedPoller.{LoggedPoller};
 ghost use Rattle.program.specs.Performing.{Left, host_view, Performs, ServesMap, ServesTo};
 ghost use Rattle.subcommands.specs.Folder.{IsParent};
 ghost use Rattle.subcommands.specs.Mapfiles.{ChecksTo, RunsTo};
@@ -15,12 +16,14 @@ use crate::files::{HostFile, HostFolder};
 use crate::host::{Files, Host};
 use crate::program::Program;
 use crate::serving::JournaledService;
+use accesslog::LoggedTransport;
 use commandline::{Command, Service};
 use console::{Console, Failure, Terminal, Writes};
 use journalfile::Log;
 use network::{Network, Port, Runtime};
 use streams::{Flagged, Sink, Source};
 use subcommands::{Job, NamedFile, ReadMap, check, read_map, run, session};
+use turns::Transport;
 
 // The mapfile of a map, and the script that is to be played on it.
 #[derive(Clone, Copy)]
@@ -129,7 +132,7 @@ impl<R: Runtime, H: Host> Program<'_, R, H> {
         console: &mut Console<I, O, E>,
     ) -> Ending<H::Port, H::Log>
         ensures serves { (parent : List ℕ) × IsParent file.now parent × (after : Left)
-            × ServesTo (host_view ⟦<H as Files>⟧ H.listens H.journal ⟦<H::Port as Port<H::Connection>>⟧ ⟦<H::Log as Log>⟧ self.now.host.now)
+            × ServesTo (host_view ⟦<H as Files>⟧ H.listens H.refuses H.journal ⟦<H::Port as Port<H::Connection>>⟧ ⟦<H::Log as Log>⟧ ⟦<LoggedTransport<H::Transport, R> as Transport>⟧ (LoggedPoller H.Poller) self.now.host.now)
             (record {
               explains = requested.entry.explains;
               journal = option_map (λ path. path.now) requested.entry.journal;
@@ -164,7 +167,7 @@ impl<R: Runtime, H: Host> Program<'_, R, H> {
         requested: RequestedService<'_>,
         console: &mut Console<I, O, E>,
     ) -> Ending<H::Port, H::Log>
-        ensures serves { ServesMap (host_view ⟦<H as Files>⟧ H.listens H.journal ⟦<H::Port as Port<H::Connection>>⟧ ⟦<H::Log as Log>⟧ self.now.host.now)
+        ensures serves { ServesMap (host_view ⟦<H as Files>⟧ H.listens H.refuses H.journal ⟦<H::Port as Port<H::Connection>>⟧ ⟦<H::Log as Log>⟧ ⟦<LoggedTransport<H::Transport, R> as Transport>⟧ (LoggedPoller H.Poller) self.now.host.now)
             (record {
               explains = requested.entry.explains;
               journal = option_map (λ path. path.now) requested.entry.journal;
@@ -204,8 +207,8 @@ impl<R: Runtime, H: Host> Program<'_, R, H> {
         command: Command,
         console: &mut Console<I, O, E>,
     ) -> Ending<H::Port, H::Log>
-        ensures performs { Performs (host_view ⟦<H as Files>⟧ H.listens H.journal ⟦<H::Port as Port<H::Connection>>⟧
-            ⟦<H::Log as Log>⟧ self.now.host.now) command.entry result
+        ensures performs { Performs (host_view ⟦<H as Files>⟧ H.listens H.refuses H.journal ⟦<H::Port as Port<H::Connection>>⟧
+            ⟦<H::Log as Log>⟧ ⟦<LoggedTransport<H::Transport, R> as Transport>⟧ (LoggedPoller H.Poller) self.now.host.now) command.entry result
             (⟦<Console<I, O, E> as Terminal>⟧.streams console.old) (⟦<Console<I, O, E> as Terminal>⟧.streams console.new) }
         ensures input { command.entry ≢ Session → console.new.input ≡ console.old.input }
         ensures leaves { Leaves result.outcome (⟦<Console<I, O, E> as Terminal>⟧.streams console.old) (⟦<Console<I, O, E> as Terminal>⟧.streams console.new) }

@@ -3,6 +3,7 @@ ghost use Rattle.console.specs.Console.{LeavesOutput, is_input_failed};
 ghost use Rattle.journal.specs.Name.{IsBounded};
 ghost use Rattle.journalfile.specs.Settled.{GarblesNoRecord, IsSettled};
 ghost use Rattle.program.specs.Journals.{IsOpened, IsUnopened, checkpoint_of, journal_view, map_fingerprint};
+ghost use Rattle.network.specs.declared.logging.LoggedPoller.{LoggedPoller};
 ghost use Rattle.program.specs.Performing.{IsServed, NamesItsPort, NamesPort, ServesCompacted, ServesJournal, ServesMachine, ServesMap, by_compacted, by_journal, host_view};
 ghost use Rattle.subcommands.specs.Session.{opened};
 ghost use Rattle.network.specs.Announcing.{IsUnserved, is_service_failure};
@@ -14,6 +15,7 @@ use crate::keeping::{
     report_end, report_journal_fault,
 };
 use crate::program::Program;
+use accesslog::LoggedTransport;
 use commandline::Service;
 use console::{Console, Failure, Writes};
 use journalfile::{Checkpoint, CompactedJournal, Journal, Log, LogFailure};
@@ -25,6 +27,7 @@ use service::{Kept, Served, serve_by_threads};
 use std::alloc::Global;
 use streams::Sink;
 use subcommands::ReadMap;
+use turns::Transport;
 
 /// How a map is to be served whose batches are kept, and the path of their journal.
 #[derive(Clone, Copy)]
@@ -58,7 +61,7 @@ fn checkpoint_of(megabytes: u32) -> Checkpoint
 // A port of a host by its number.
 fn listen_on<H: Host>(host: &H, port: u16) -> Result<H::Port, Failure>
     ensures listens { IfOk result (λ p. H.listens host.now port p) }
-    ensures named { IfErr result (NamesPort (λ named. named ≡ port)) }
+    ensures named { IfErr result (NamesPort (λ named cause. (named ≡ port) × H.refuses host.now port cause)) }
     ensures failed { IfErr result (λ failure. is_service_failure failure ≡ true) }
 {
     match host.listen(port) {
@@ -70,7 +73,7 @@ fn listen_on<H: Host>(host: &H, port: u16) -> Result<H::Port, Failure>
 // A poller for each of so many workers.
 fn pollers_of<H: Host>(alloc: Global, host: &H, workers: u16) -> Result<Vec<H::Poller>, Failure>
     ensures number { IfOk result (λ pollers. vec_len pollers ≡ workers) }
-    ensures unnamed { IfErr result (NamesPort (λ _. ⊥)) }
+    ensures unnamed { IfErr result (NamesPort (λ _ _. ⊥)) }
     ensures failed { IfErr result (λ failure. is_service_failure failure ≡ true) }
 {
     let mut pollers = Vec::new(alloc);
@@ -92,7 +95,7 @@ fn until_of<H: Host>(
     clients: &H::Port,
 ) -> Result<Option<Until<H::Waker, H::Input>>, Failure>
     ensures asked { IfOk result (λ until. is_some until ≡ service.until_input_ends) }
-    ensures unnamed { IfErr result (NamesPort (λ _. ⊥)) }
+    ensures unnamed { IfErr result (NamesPort (λ _ _. ⊥)) }
     ensures failed { IfErr result (λ failure. is_service_failure failure ≡ true) }
 {
     if !service.until_input_ends {
@@ -115,7 +118,7 @@ fn listen<H: Host>(
     ensures service { IfOk result (λ ports. ports.service ≡ service) }
     ensures pollers { IfOk result (λ ports. vec_len ports.pollers ≡ service.workers) }
     ensures until { IfOk result (λ ports. is_some ports.until ≡ service.until_input_ends) }
-    ensures named { IfErr result (NamesItsPort service) }
+    ensures named { IfErr result (NamesItsPort (H.refuses host.now) service) }
     ensures failed { IfErr result (λ failure. is_service_failure failure ≡ true) }
 {
     let clients = listen_on(host, service.port)?;
@@ -145,11 +148,12 @@ impl<R: Runtime, H: Host> Program<'_, R, H> {
         output: &mut O,
     ) -> Result<Served<H::Port, K>, Failure>
         requires ready { (batches : List (List ℕ)) × K.keeps kept.keeper batches }
-        ensures served { IfOk result (λ served. IsServed (host_view ⟦<H as Files>⟧ H.listens H.journal ⟦<H::Port as Port<H::Connection>>⟧
-            ⟦<H::Log as Log>⟧ self.now.host.now) K.keeps (record { machine = kept.machine; keeper = kept.keeper; service = service }) served
+        ensures served { IfOk result (λ served. IsServed (host_view ⟦<H as Files>⟧ H.listens H.refuses H.journal ⟦<H::Port as Port<H::Connection>>⟧
+            ⟦<H::Log as Log>⟧ ⟦<LoggedTransport<H::Transport, R> as Transport>⟧ (LoggedPoller H.Poller) self.now.host.now) ⟦<K as Keeps>⟧
+            (record { machine = kept.machine; keeper = kept.keeper; service = service }) served
             (⟦<O as Writes>⟧.state output.old) (⟦<O as Writes>⟧.state output.new)) }
         ensures unserved { IfErr result (λ failure. IsUnserved (Err failure) (⟦<O as Writes>⟧.state output.old) (⟦<O as Writes>⟧.state output.new)) }
-        ensures named { IfErr result (NamesItsPort service) }
+        ensures named { IfErr result (NamesItsPort (H.refuses self.now.host.now) service) }
     {
         let ports = listen(self.rt.alloc(), self.host, service)?;
         Ok(serve_by_threads::<R, H, K, O>(&self.rt, kept, ports, output))
@@ -163,8 +167,8 @@ impl<R: Runtime, H: Host> Program<'_, R, H> {
         output: &mut O,
     ) -> Ending<H::Port, H::Log>
         requires ready { (batches : List (List ℕ)) × ⟦<Option<Journal<H::Log>> as Keeps>⟧.keeps kept.keeper batches }
-        ensures serves { ServesMachine (host_view ⟦<H as Files>⟧ H.listens H.journal ⟦<H::Port as Port<H::Connection>>⟧
-            ⟦<H::Log as Log>⟧ self.now.host.now) by_journal (record { machine = kept.machine; keeper = kept.keeper; service = service }) result
+        ensures serves { ServesMachine (host_view ⟦<H as Files>⟧ H.listens H.refuses H.journal ⟦<H::Port as Port<H::Connection>>⟧
+            ⟦<H::Log as Log>⟧ ⟦<LoggedTransport<H::Transport, R> as Transport>⟧ (LoggedPoller H.Poller) self.now.host.now) by_journal (record { machine = kept.machine; keeper = kept.keeper; service = service }) result
             (⟦<O as Writes>⟧.state output.old) (⟦<O as Writes>⟧.state output.new) }
         ensures leaves { LeavesOutput result.outcome (⟦<O as Writes>⟧.state output.old) (⟦<O as Writes>⟧.state output.new) }
         ensures reads { is_input_failed result.outcome ≡ false }
@@ -183,8 +187,8 @@ impl<R: Runtime, H: Host> Program<'_, R, H> {
         output: &mut O,
     ) -> Ending<H::Port, H::Log>
         requires ready { (batches : List (List ℕ)) × ⟦<CompactedJournal<H::Log> as Keeps>⟧.keeps kept.keeper batches }
-        ensures serves { ServesMachine (host_view ⟦<H as Files>⟧ H.listens H.journal ⟦<H::Port as Port<H::Connection>>⟧
-            ⟦<H::Log as Log>⟧ self.now.host.now) by_compacted (record { machine = kept.machine; keeper = kept.keeper; service = service }) result
+        ensures serves { ServesMachine (host_view ⟦<H as Files>⟧ H.listens H.refuses H.journal ⟦<H::Port as Port<H::Connection>>⟧
+            ⟦<H::Log as Log>⟧ ⟦<LoggedTransport<H::Transport, R> as Transport>⟧ (LoggedPoller H.Poller) self.now.host.now) by_compacted (record { machine = kept.machine; keeper = kept.keeper; service = service }) result
             (⟦<O as Writes>⟧.state output.old) (⟦<O as Writes>⟧.state output.new) }
         ensures leaves { LeavesOutput result.outcome (⟦<O as Writes>⟧.state output.old) (⟦<O as Writes>⟧.state output.new) }
         ensures reads { is_input_failed result.outcome ≡ false }
@@ -203,8 +207,8 @@ impl<R: Runtime, H: Host> Program<'_, R, H> {
         output: &mut O,
     ) -> Ending<H::Port, H::Log>
         requires ready { (batches : List (List ℕ)) × ⟦<CompactedJournal<H::Log> as Keeps>⟧.keeps kept.keeper batches }
-        ensures serves { ServesCompacted (host_view ⟦<H as Files>⟧ H.listens H.journal ⟦<H::Port as Port<H::Connection>>⟧
-            ⟦<H::Log as Log>⟧ self.now.host.now) (record { machine = kept.machine; keeper = kept.keeper; service = service }) result
+        ensures serves { ServesCompacted (host_view ⟦<H as Files>⟧ H.listens H.refuses H.journal ⟦<H::Port as Port<H::Connection>>⟧
+            ⟦<H::Log as Log>⟧ ⟦<LoggedTransport<H::Transport, R> as Transport>⟧ (LoggedPoller H.Poller) self.now.host.now) (record { machine = kept.machine; keeper = kept.keeper; service = service }) result
             (⟦<O as Writes>⟧.state output.old) (⟦<O as Writes>⟧.state output.new) }
         ensures leaves { LeavesOutput result.outcome (⟦<O as Writes>⟧.state output.old) (⟦<O as Writes>⟧.state output.new) }
         ensures reads { is_input_failed result.outcome ≡ false }
@@ -225,8 +229,8 @@ impl<R: Runtime, H: Host> Program<'_, R, H> {
         requires recognised { H.Log.reliable → (name : List ℕ) → GarblesNoRecord H.Log.garbled name }
         requires settled { (own : List (List ℕ)) × (H.Log.reliable → IsSettled H.Log.content H.Log.may_leave kept.keeper own) }
         requires bounded { IsBounded kept.keeper.name.compaction }
-        ensures serves { ServesJournal (host_view ⟦<H as Files>⟧ H.listens H.journal ⟦<H::Port as Port<H::Connection>>⟧
-            ⟦<H::Log as Log>⟧ self.now.host.now) (journaled.entry.explains || journaled.entry.service.logs)
+        ensures serves { ServesJournal (host_view ⟦<H as Files>⟧ H.listens H.refuses H.journal ⟦<H::Port as Port<H::Connection>>⟧
+            ⟦<H::Log as Log>⟧ ⟦<LoggedTransport<H::Transport, R> as Transport>⟧ (LoggedPoller H.Poller) self.now.host.now) (journaled.entry.explains || journaled.entry.service.logs)
             (record { machine = kept.machine; keeper = kept.keeper; service = journaled.entry.service }) result
             (⟦<O as Writes>⟧.state output.old) (⟦<O as Writes>⟧.state output.new) }
         ensures leaves { LeavesOutput result.outcome (⟦<O as Writes>⟧.state output.old) (⟦<O as Writes>⟧.state output.new) }
@@ -257,8 +261,8 @@ impl<R: Runtime, H: Host> Program<'_, R, H> {
         service: Service,
         output: &mut O,
     ) -> Ending<H::Port, H::Log>
-        ensures serves { ServesMachine (host_view ⟦<H as Files>⟧ H.listens H.journal ⟦<H::Port as Port<H::Connection>>⟧
-            ⟦<H::Log as Log>⟧ self.now.host.now) by_journal (record { machine = opened map; keeper = None; service = service }) result
+        ensures serves { ServesMachine (host_view ⟦<H as Files>⟧ H.listens H.refuses H.journal ⟦<H::Port as Port<H::Connection>>⟧
+            ⟦<H::Log as Log>⟧ ⟦<LoggedTransport<H::Transport, R> as Transport>⟧ (LoggedPoller H.Poller) self.now.host.now) by_journal (record { machine = opened map; keeper = None; service = service }) result
             (⟦<O as Writes>⟧.state output.old) (⟦<O as Writes>⟧.state output.new) }
         ensures leaves { LeavesOutput result.outcome (⟦<O as Writes>⟧.state output.old) (⟦<O as Writes>⟧.state output.new) }
         ensures reads { is_input_failed result.outcome ≡ false }
@@ -302,8 +306,8 @@ impl<R: Runtime, H: Host> Program<'_, R, H> {
         journaled: JournaledService<'_>,
         console: &mut Console<I, O, E>,
     ) -> Ending<H::Port, H::Log>
-        ensures serves { ServesMap (host_view ⟦<H as Files>⟧ H.listens H.journal ⟦<H::Port as Port<H::Connection>>⟧
-            ⟦<H::Log as Log>⟧ self.now.host.now)
+        ensures serves { ServesMap (host_view ⟦<H as Files>⟧ H.listens H.refuses H.journal ⟦<H::Port as Port<H::Connection>>⟧
+            ⟦<H::Log as Log>⟧ ⟦<LoggedTransport<H::Transport, R> as Transport>⟧ (LoggedPoller H.Poller) self.now.host.now)
             (record {
               explains = journaled.entry.explains;
               journal = Some journaled.entry.path.now;

@@ -54,6 +54,8 @@ impl Host for SystemHost {
 
     ghost listens = { λ _ _ _. Unit {0} };
 
+    ghost refuses = { λ _ _ _. Unit {0} };
+
     fn listen(&self, number: u16) -> Result<SocketPort, ListenFailed> {
         match listener_on(&self.rt, number) {
             Ok(listener) => match SocketPort::new(&self.rt, listener) {

@@ -26,9 +26,9 @@ enum Became {
 fn submit<S: Sharing, R: Wait>(
     rt: &R,
     system: &HostRuntime,
-    admin: Admin<S>,
+    admin: Admin<S, Nowhere>,
     batch: Vec<u8>,
-) -> (Admin<S>, Became) {
+) -> (Admin<S, Nowhere>, Became) {
     let _begun = begin(system);
     let (admin, submitted) = admin.submit(rt, batch);
     let _ended = end(system);
@@ -40,7 +40,11 @@ fn submit<S: Sharing, R: Wait>(
     }
 }
 
-fn retry<S: Sharing, R: Wait>(rt: &R, system: &HostRuntime, admin: Admin<S>) -> (Admin<S>, Became) {
+fn retry<S: Sharing, R: Wait>(
+    rt: &R,
+    system: &HostRuntime,
+    admin: Admin<S, Nowhere>,
+) -> (Admin<S, Nowhere>, Became) {
     let _begun = begin(system);
     let (admin, retried) = admin.retry(rt);
     let _ended = end(system);
@@ -74,7 +78,7 @@ struct Unshared<'a> {
 
 // A machine that is shared.
 struct Shared<S: Sharing> {
-    admin: Admin<S>,
+    admin: Admin<S, Nowhere>,
     readers: Vec<Reader<S>>,
 }
 
@@ -84,7 +88,7 @@ fn submit_often<S: Sharing, R: Wait>(
     system: &HostRuntime,
     shared: Shared<S>,
     batches: [Vec<u8>; 2],
-) -> Admin<S> {
+) -> Admin<S, Nowhere> {
     let Shared { admin, mut readers } = shared;
     let [first, second] = batches;
     let (admin, became) = submit(rt, system, admin, first);
@@ -110,7 +114,7 @@ fn submit_shared<S: Sharing, R: AllocGlobal + Wait>(
     requires opening { unshared.machine.now ≡ S.opening }
 {
     let Unshared { blank, machine } = unshared;
-    let Ok((admin, readers)) = open::<S, R>(rt, blank, machine, 2) else {
+    let Ok((admin, readers)) = open::<S, Nowhere, R>(rt, blank, machine, 2) else {
         return false;
     };
     let admin = submit_often(rt, system, Shared { admin, readers }, batches);
@@ -135,7 +139,11 @@ pub fn submit_row<R: AllocGlobal + Wait>(rt: &R, system: &HostRuntime) -> io::Re
 }
 
 // Accepts batches, prints how many it accepted, and returns that.
-fn accept<S: Sharing>(system: &HostRuntime, admin: &mut Admin<S>, batches: &[Vec<u8>]) -> usize {
+fn accept<S: Sharing>(
+    system: &HostRuntime,
+    admin: &mut Admin<S, Nowhere>,
+    batches: &[Vec<u8>],
+) -> usize {
     let mut nowhere = Nowhere;
     let _begun = begin(system);
     let accepted = admin.accept_kept(&mut nowhere, batches);
@@ -159,7 +167,7 @@ fn accept_shared<S: Sharing, R: AllocGlobal + Wait>(
     requires opening { unshared.machine.now ≡ S.opening }
 {
     let Unshared { blank, machine } = unshared;
-    let Ok((mut admin, mut readers)) = open::<S, R>(rt, blank, machine, 2) else {
+    let Ok((mut admin, mut readers)) = open::<S, Nowhere, R>(rt, blank, machine, 2) else {
         return false;
     };
     let count = accept(system, &mut admin, batches);
@@ -197,7 +205,7 @@ fn share<S: Sharing, R: AllocGlobal + Wait>(
     requires opening { machine.now ≡ S.opening }
 {
     let _begun = begin(system);
-    let opened = open::<S, R>(rt, blank, machine, 2);
+    let opened = open::<S, Nowhere, R>(rt, blank, machine, 2);
     let _ended = end(system);
     let Ok((admin, _readers)) = opened else {
         return false;
@@ -259,7 +267,7 @@ fn ask_shared<S: Sharing, R: AllocGlobal + Wait>(
     requires history { blank.seen.book ≡ S.book }
     requires opening { machine.now ≡ S.opening }
 {
-    let Ok((admin, mut readers)) = open::<S, R>(rt, blank, machine, 2) else {
+    let Ok((admin, mut readers)) = open::<S, Nowhere, R>(rt, blank, machine, 2) else {
         return false;
     };
     if ask(system, &mut readers) == Said::NoMemory {

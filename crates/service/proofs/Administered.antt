@@ -1,6 +1,6 @@
 -- The bytes that an administrator's client got through a sink in front of its own.
 use Rattle.std.proofs.Common.{◌≡◌, inl, inr, ℕ, ◌-◌, List, Option, None, Result, Ok, Err, refl}
-use Rattle.std.specs.Prelude.{OnOk, IsErr, IsErrOf, MatchResult}
+use Rattle.std.specs.Prelude.{IfSome, OnOk, IsErr, IsErrOf, MatchResult}
 use Rattle.administration.specs.Keeping.{HasSent, IsCutShort, IsFailed, IsReported}
 use Rattle.administration.specs.Serving.{HasAdministered, HasDoneAll, ReportedCommands}
 use Rattle.administration.specs.declared.keeping.AdministerFault.{AdministerFault}
@@ -108,3 +108,9 @@ kept-of (Err (KeepFailed cause)) P is e = absurd (cc e)
 pub unless-failed : (kept : Result (Unit {0}) keep.KeepFailed) (outcome : Outcome) (P : Type 0) → (IsErr kept → outcome ≡ Err JournalFailed) → OnOk kept P → (outcome ≡ Err JournalFailed → ⊥) → P
 unless-failed (Ok done) outcome P fails is other = is
 unless-failed (Err why) outcome P fails is other = absurd (other (fails refl))
+
+-- why the keeper failed, if it did
+pub cause-of : (served : Result (Unit {0}) AdministerFault) (P : LogCause → Type 0) → ((cause : LogCause) → IsErrOf served (KeepFailed cause) → P cause) → IfSome (cause_of served) P
+cause-of (Ok done) P is = tt
+cause-of (Err PutFailed) P is = tt
+cause-of (Err (KeepFailed cause)) P is = is cause refl

@@ -1,2 +1,3 @@
 pub mod Administered
+pub mod HandingOver
 pub mod Timing

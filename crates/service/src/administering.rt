@@ -1,12 +1,13 @@
 //! The connections of administrators: one after the other, each until it ends, and each accepted batch kept.
 
-ghost use Rattle.std.specs.Prelude.{◌≡◌, ℕ, List, IfSome, MatchOption, OnOk, None};
+ghost use Rattle.std.specs.Prelude.{◌≡◌, ℕ, List, IfErr, IfSome, MatchOption, OnOk, None};
 ghost use Rattle.streams.specs.Sides.{sides_view};
-ghost use Rattle.administration.specs.Keeping.{IsKeptSince};
+ghost use Rattle.administration.specs.Keeping.{IsCause, IsKeptSince, NoneLost};
 ghost use Rattle.service.specs.Administering.{Administers, cause_of, fault_of};
 ghost use Rattle.network.specs.Opening.{IsServedOne};
 
 use crate::clients::queue_of;
+use crate::flags::{Flag, Left, Over};
 use accesslog::{LogQueue, LoggedSink};
 use administration::{AdministerFault, Client, administer_kept};
 use httpedge::EdgeFault;
@@ -15,7 +16,6 @@ use mapshare::{Admin, KeepFailed, Sharing};
 use network::{Accepting, Acceptor, Administrators, Opens, Plan, Port, PortFor, Runtime, Sides};
 use std::alloc::Global;
 use std::sync::Arc;
-use std::sync::atomic::{AtomicBool, Ordering};
 use streams::{Sink, Source};
 
 // A connection of an administrator that was closed.
@@ -60,10 +60,10 @@ struct Numbered<C, R> {
 // connection that can't be opened gives none.
 fn administer_one<S: Sharing, K: Keeps, R: Runtime, C: Opens>(
     rt: &R,
-    admin: Admin<S>,
+    admin: Admin<S, K>,
     keeper: &mut K,
     numbered: Numbered<C, R>,
-) -> (Admin<S>, Option<Attempt<C::Closed>>)
+) -> (Admin<S, K>, Option<Attempt<C::Closed>>)
     requires ready { (kept : List (List ℕ)) × K.keeps keeper.old kept }
     ensures served { MatchOption result.1 (C.opens numbered.connection None × (result.0 ≡ admin) × (keeper.new ≡ keeper.old))
         (λ attempt. IsServedOne C.opens C.closes
@@ -71,6 +71,8 @@ fn administer_one<S: Sharing, K: Keeps, R: Runtime, C: Opens>(
         numbered.connection admin result.0 attempt.closed) }
     ensures kept { (kept : List (List ℕ)) → K.keeps keeper.old kept
         → IfSome result.1 (λ attempt. attempt.cause ≡ None → IsKeptSince K.keeps admin kept result.0 keeper.new) }
+    ensures crash { NoneLost ⟦<K as Keeps>⟧ S.opening admin keeper.old result.0 keeper.new }
+    ensures cause { IfSome result.1 (λ attempt. IfSome attempt.cause (IsCause K.fails)) }
 {
     let Numbered {
         connection,
@@ -100,9 +102,9 @@ fn administer_one<S: Sharing, K: Keeps, R: Runtime, C: Opens>(
 pub(crate) struct Administering<P, R> {
     pub port: Accepting<PortFor<Administrators, P>>,
     /// The service ends.
-    pub is_over: Arc<AtomicBool, Global>,
+    pub is_over: Arc<Flag<Over>, Global>,
     /// The port of clients isn't served any more.
-    pub is_left: Arc<AtomicBool, Global>,
+    pub is_left: Arc<Flag<Left>, Global>,
     pub log: Option<LogQueue<R>>,
 }
 
@@ -125,7 +127,7 @@ impl<P, R: Runtime> Administering<P, R> {
         C: Drop,
     {
         let accepted = self.port.accept();
-        if self.is_over.load(Ordering::SeqCst) {
+        if self.is_over.is_set() {
             return Came::End;
         }
         match acceptor.follow(Some(accepted)) {
@@ -137,7 +139,7 @@ impl<P, R: Runtime> Administering<P, R> {
                 log: queue_of(&self.log),
             }),
             Plan::Press(press) => {
-                if press.forgo() && self.is_left.load(Ordering::SeqCst) {
+                if press.forgo() && self.is_left.is_set() {
                     Came::End
                 } else {
                     Came::Nothing
@@ -152,10 +154,10 @@ impl<P, R: Runtime> Administering<P, R> {
 /// given up where 100 fail one after the other and the port of clients isn't served any more.
 pub(crate) fn administer_all<S, K, R, C, P>(
     rt: &R,
-    admin: Admin<S>,
+    admin: Admin<S, K>,
     keeper: &mut K,
     mut side: Administering<P, R>,
-) -> (Admin<S>, Result<(), KeepFailed>)
+) -> (Admin<S, K>, Result<(), KeepFailed>)
 where
     S: Sharing,
     K: Keeps,
@@ -164,6 +166,8 @@ where
     P: Port<C> + Drop,
     requires ready { (kept : List (List ℕ)) × K.keeps keeper.old kept }
     ensures kept { (kept : List (List ℕ)) → K.keeps keeper.old kept → OnOk result.1 (IsKeptSince K.keeps admin kept result.0 keeper.new) }
+    ensures crash { NoneLost ⟦<K as Keeps>⟧ S.opening admin keeper.old result.0 keeper.new }
+    ensures cause { IfErr result.1 (λ failed. IsCause K.fails failed.cause) }
 {
     let mut admin = admin;
     let mut acceptor = Acceptor::new();

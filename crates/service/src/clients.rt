@@ -1,14 +1,14 @@
-ghost use Rattle.std.specs.List.{All};
-ghost use Rattle.std.specs.Prelude.{◌≡◌, List, IfErr, IfOk, IfSome, MatchOption, Ok, true};
-ghost use Rattle.eventloop.specs.Rounds.{HasBeen};
+ghost use Rattle.std.specs.Prelude.{◌≡◌, ◌+◌, List, IfErr, IfOk, MatchOption, Ok, OnOk, length, true};
 ghost use Rattle.eventloop.specs.Working.{BeganWith};
-ghost use Rattle.mapshare.specs.Answerer.{reader_answers};
 ghost use Rattle.network.specs.Ports.{HasAccepted, HasCalled, PortEvent};
 ghost use Rattle.network.specs.Announcing.{GoesOnAfter, is_service_failure};
+ghost use Rattle.network.specs.declared.logging.LoggedPoller.{LoggedPoller};
 ghost use Rattle.network.specs.Times.{IsTimed};
-ghost use Rattle.turns.specs.Table.{timeouts_of as times_of};
+ghost use Rattle.service.specs.Serving.{AreHandedOver, WereServed};
 ghost use Rattle.turns.specs.declared.times.Timeouts.{Timeouts as Times};
 
+use crate::flags::{Flag, Stopped};
+use crate::started::Starting;
 use accesslog::{EndsEarly, LogQueue, LoggedTransport};
 use commandline::Service;
 use console::Failure;
@@ -17,12 +17,20 @@ use httpedge::Asks;
 use mapshare::{Reader, Sharing};
 use network::{
     AcceptFailed, Accepting, Acceptor, Clients, FULL_MILLISECONDS, IntoTransport, LoggedPoller,
-    Plan, Port, PortFor, Runtime, Starting, slots_of, timeouts_of,
+    Plan, Port, PortFor, Runtime, slots_of, timeouts_of,
 };
-use std::sync::atomic::{AtomicBool, Ordering};
-use std::thread;
+use std::marker::PhantomData;
+use std::thread::{self, Promise};
 use std::time::Duration;
 use turns::Transport;
+
+/// The workers of clients.
+type ClientWorkers<S, R, T, Q, W> = WorkerThreads<
+    Reader<S>,
+    LoggedTransport<T, R>,
+    LoggedPoller<Q>,
+    W,
+>;
 
 // The readers of the map, one for each worker, and the workers' pollers.
 #[derive(Drop)]
@@ -31,43 +39,10 @@ struct Seats<S: Sharing, Q> {
     pollers: Vec<Q>,
 }
 
-// The reader of a worker, and its poller.
-#[derive(Drop)]
-struct Seat<S: Sharing, Q> {
-    reader: Reader<S>,
-    poller: Q,
-}
-
-// Starts a worker for a reader.
-fn start_one<S, R, T, Q>(
-    rt: &R,
-    workers: &mut WorkerThreads<Reader<S>, LoggedTransport<T, R>, LoggedPoller<Q>, Q::Waker>,
-    seat: Seat<S, Q>,
-    capacity: Capacity,
-) -> Result<(), Failure>
-where
-    S: Sharing + Send + Sync + 'static,
-    R: Runtime,
-    T: Transport + Send + Drop + 'static,
-    Q: Poller<T> + Send + Drop + 'static,
-    ensures failed { IfErr result (λ failure. is_service_failure failure ≡ true) }
-    ensures began { BeganWith capacity.timeouts workers.old.threads.items → BeganWith capacity.timeouts workers.new.threads.items }
-{
-    let Seat { reader, poller } = seat;
-    let poller = LoggedPoller { inner: poller };
-    let Ok(worker) = Worker::new(rt.alloc(), reader, poller, capacity) else {
-        return Err(Failure::NoMemory);
-    };
-    match start_worker(rt, rt.alloc(), workers, worker) {
-        Ok(()) => Ok(()),
-        Err(_) => Err(Failure::SocketFailed),
-    }
-}
-
 // Starts a worker for each reader, with a poller of its own.
 fn start_all<S, R, T, Q>(
     rt: &R,
-    workers: &mut WorkerThreads<Reader<S>, LoggedTransport<T, R>, LoggedPoller<Q>, Q::Waker>,
+    workers: &mut ClientWorkers<S, R, T, Q, Q::Waker>,
     seats: Seats<S, Q>,
     capacity: Capacity,
 ) -> Result<(), Failure>
@@ -78,28 +53,29 @@ where
     Q: Poller<T> + Send + Drop + 'static,
     ensures failed { IfErr result (λ failure. is_service_failure failure ≡ true) }
     ensures began { BeganWith capacity.timeouts workers.old.threads.items → BeganWith capacity.timeouts workers.new.threads.items }
+    ensures all { OnOk result (length workers.new.threads.items ≡ length workers.old.threads.items + length seats.readers.items) }
+    ensures count { workers.new.count ≡ workers.old.count }
 {
     let Seats {
-        readers,
+        mut readers,
         mut pollers,
     } = seats;
-    for reader in readers {
+    while let Some(reader) = readers.pop() {
         let Some(poller) = pollers.pop() else {
             return Err(Failure::SocketFailed);
         };
-        start_one::<S, R, T, Q>(rt, workers, Seat { reader, poller }, capacity)?;
+        let poller = LoggedPoller { inner: poller };
+        let Ok(worker) = Worker::new(rt.alloc(), reader, poller, capacity) else {
+            return Err(Failure::NoMemory);
+        };
+        if start_worker(rt, rt.alloc(), workers, worker).is_err() {
+            return Err(Failure::SocketFailed);
+        }
     }
     Ok(())
 }
 
-// The number of a connection, counted from 1, and the queue of the log for it, if there is one.
-#[derive(Drop)]
-struct Noted<R> {
-    number: u64,
-    queue: Option<LogQueue<R>>,
-}
-
-// The queue of a log for one more connection. Where the queue has too many ends, that connection isn't logged.
+/// The queue of a log for one more connection. Where the queue has too many ends, that connection isn't logged.
 pub(crate) fn queue_of<R: Runtime>(log: &Option<LogQueue<R>>) -> Option<LogQueue<R>> {
     match log {
         Some(queue) => queue.share().ok(),
@@ -107,46 +83,22 @@ pub(crate) fn queue_of<R: Runtime>(log: &Option<LogQueue<R>>) -> Option<LogQueue
     }
 }
 
-// Hands a connection over to its worker, with the log of its number.
-fn hand_over<S, R, C, T, Q, W>(
+// The connection of a number by calls that never wait, which is logged, if there is a log. There is none where such calls can't be made.
+fn transport_of<R: Runtime, T: Transport, C: IntoTransport<T>>(
     rt: &R,
-    workers: &mut WorkerThreads<Reader<S>, LoggedTransport<T, R>, LoggedPoller<Q>, W>,
     connection: C,
-    noted: Noted<R>,
-)
-where
-    S: Sharing + Send + Sync + 'static,
-    Q: Drop,
-    R: Runtime,
-    C: IntoTransport<T>,
-    T: Transport + Drop,
-    W: Wakes + Drop,
-    ensures threads { workers.new.threads ≡ workers.old.threads }
-{
-    if let Some(transport) = connection.into_transport() {
-        let Noted { number, queue } = noted;
-        workers.hand_over(
-            rt,
-            LoggedTransport::new(rt.alloc(), transport, number, queue),
-        );
-    }
+    number: u64,
+    log: &Option<LogQueue<R>>,
+) -> Option<LoggedTransport<T, R>> {
+    let transport = connection.into_transport()?;
+    Some(LoggedTransport::new(rt.alloc(), transport, number, queue_of(log)))
 }
 
 // What the thread that accepts connections looks at: whether it has to stop, and the queue of the log, if there is one.
 #[derive(Clone, Copy)]
 struct Watched<'a, R> {
-    is_stopped: &'a AtomicBool,
+    is_stopped: &'a Flag<Stopped>,
     log: &'a Option<LogQueue<R>>,
-}
-
-impl<R: Runtime> Watched<'_, R> {
-    // What is noted of the connection of a number.
-    fn noted(&self, number: u64) -> Noted<R> {
-        Noted {
-            number,
-            queue: queue_of(self.log),
-        }
-    }
 }
 
 // The next connection of a port, by one call, unless too many wait for their workers.
@@ -177,7 +129,7 @@ where
 fn accept_all<S, R, C, T, P, Q, W>(
     rt: &R,
     port: &mut Accepting<PortFor<Clients, P>>,
-    workers: &mut WorkerThreads<Reader<S>, LoggedTransport<T, R>, LoggedPoller<Q>, W>,
+    workers: &mut ClientWorkers<S, R, T, Q, W>,
     watched: Watched<'_, R>,
 ) -> Result<(), Failure>
 where
@@ -189,21 +141,23 @@ where
     P: Port<C>,
     W: Wakes + Drop,
     ensures accepted { (events : List PortEvent)
-        × HasAccepted (P.log port.old.port.port) (P.log port.new.port.port) port.old.remaining port.new.remaining events }
+        × HasAccepted (P.log port.old.port.port) (P.log port.new.port.port) port.old.remaining port.new.remaining events
+        × AreHandedOver workers.old.count events workers.new.count }
     ensures failed { IfErr result (λ failure. is_service_failure failure ≡ true) }
     ensures threads { workers.new.threads ≡ workers.old.threads }
 {
     let mut acceptor = Acceptor::new();
     for _ in rt.forever() {
         let accepted = accept_next(rt, port, workers);
-        if watched.is_stopped.load(Ordering::SeqCst) {
+        if watched.is_stopped.is_set() {
             return Ok(());
         }
         match acceptor.follow(accepted) {
             Plan::Wait => {}
             Plan::End => return Ok(()),
             Plan::HandOver { connection, number } => {
-                hand_over::<S, R, C, T, Q, W>(rt, workers, connection, watched.noted(number));
+                let transport = transport_of::<R, T, C>(rt, connection, number, watched.log);
+                workers.hand_over(rt, transport);
             }
             Plan::Press(press) => {
                 if press.obey(rt, workers) && !workers.is_serving(rt) {
@@ -233,7 +187,7 @@ fn start_workers<S, R, T, Q>(
     rt: &R,
     seats: Seats<S, Q>,
     service: Service,
-) -> Result<WorkerThreads<Reader<S>, LoggedTransport<T, R>, LoggedPoller<Q>, Q::Waker>, Failure>
+) -> Result<ClientWorkers<S, R, T, Q, Q::Waker>, Failure>
 where
     S: Sharing + Send + Sync + 'static,
     R: Runtime,
@@ -241,7 +195,12 @@ where
     Q: Poller<T> + Send + Drop + 'static,
     ensures failed { IfErr result (λ failure. is_service_failure failure ≡ true) }
     ensures began { IfOk result (λ workers. (times : Times) × IsTimed service times × BeganWith times workers.threads.items) }
+    ensures all { IfOk result (λ workers. length workers.threads.items ≡ service.workers) }
 {
+    // the map was opened for as many readers
+    if seats.readers.len() != usize::from(service.workers) {
+        return Err(Failure::SocketFailed);
+    }
     let capacity = Capacity {
         slots: slots_of(service),
         timeouts: timeouts_of(service),
@@ -264,8 +223,8 @@ where
 }
 
 // How the workers end: the thread of clients has to stop, or no further client comes.
-fn ending_of(is_stopped: &AtomicBool) -> Ending {
-    if is_stopped.load(Ordering::SeqCst) {
+fn ending_of(is_stopped: &Flag<Stopped>) -> Ending {
+    if is_stopped.is_set() {
         Ending::Stops
     } else {
         Ending::Finishes
@@ -278,21 +237,31 @@ pub(crate) struct ClientFlags<'a> {
     /// Gets whether the workers were started.
     pub starting: &'a Starting,
     /// The thread has to stop.
-    pub is_stopped: &'a AtomicBool,
+    pub is_stopped: &'a Flag<Stopped>,
 }
 
-/// The workers of clients, once they have ended.
-type EndedWorkers<S, R, T, Q> = Vec<Worker<Reader<S>, LoggedTransport<T, R>, LoggedPoller<Q>>>;
+/// The promise of the thread of clients: how it ends, and that its workers served, with these options.
+#[derive(Drop)]
+pub(crate) struct ServesClients<S, R, T, Q> {
+    pub service: Service,
+    pub of: PhantomData<(S, R, T, Q)>,
+}
+
+impl<S: Sharing, R: Runtime, T: Transport + Drop, Q> Promise<Result<(), Failure>>
+    for ServesClients<S, R, T, Q> {
+    ghost kept_by = { λ promise left. GoesOnAfter (Ok tt) left
+        × WereServed (LoggedPoller Q) ⟦<LoggedTransport<T, R> as Transport>⟧ S.opening promise.service left };
+}
 
 /// Answers the connections of clients by a worker for each reader, up to the last. Those that came are answered to their end. Where the thread has to
-/// stop, those that are being answered get their answers, and the others are closed. It tells whether the workers were started, and gives them back:
-/// each answered its connections, from none on, as a reader of the map that was opened, within the times of the service's options.
+/// stop, those that are being answered get their answers, and the others are closed. It tells whether the workers were started. Each of them answered
+/// its connections, from none on, as a reader of the map that was opened, within the times of the service's options.
 pub(crate) fn serve_clients<S, R, C, T, P, Q>(
     rt: &R,
     readers: Vec<Reader<S>>,
     side: ClientSide<P, Q, R>,
     flags: ClientFlags<'_>,
-) -> (Result<(), Failure>, Option<EndedWorkers<S, R, T, Q>>)
+) -> Result<(), Failure>
 where
     S: Sharing + Send + Sync + 'static,
     R: Runtime,
@@ -300,10 +269,8 @@ where
     T: Transport + Send + Drop + 'static,
     P: Port<C> + Drop,
     Q: Poller<T> + Send + Drop + 'static,
-    ensures ends { GoesOnAfter (Ok tt) result.0 }
-    ensures answered { IfSome result.1 (λ workers. All (λ worker. HasBeen (reader_answers S.opening) ⟦<LoggedTransport<T, R> as Transport>⟧ worker)
-        workers.items) }
-    ensures timed { IfSome result.1 (λ workers. All (λ worker. IsTimed side.service (times_of worker.table)) workers.items) }
+    ensures ends { GoesOnAfter (Ok tt) result }
+    ensures clients { WereServed (LoggedPoller Q) ⟦<LoggedTransport<T, R> as Transport>⟧ S.opening side.service result }
 {
     let ClientSide {
         mut port,
@@ -315,7 +282,7 @@ where
     flags.starting.tell(rt, started.is_ok());
     let mut workers = match started {
         Ok(workers) => workers,
-        Err(failure) => return (Err(failure), None),
+        Err(failure) => return Err(failure),
     };
     let watched = Watched {
         is_stopped: flags.is_stopped,
@@ -324,5 +291,8 @@ where
     let served = accept_all::<S, R, C, T, P, Q, Q::Waker>(rt, &mut port, &mut workers, watched);
     // from now on the system refuses further ones
     drop(port);
-    (served, workers.end(rt, ending_of(flags.is_stopped)))
+    match workers.end(rt, ending_of(flags.is_stopped)) {
+        Some(_workers) => served,
+        None => Err(served.err().unwrap_or(Failure::NoMemory)),
+    }
 }

@@ -11,7 +11,10 @@
 
 mod administering;
 mod clients;
+mod flags;
 mod served;
+mod signals;
+mod started;
 mod starting;
 mod threaded;
 

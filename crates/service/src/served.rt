@@ -111,7 +111,7 @@ impl<P, K> Served<P, K> {
     }
 
     // The same, with how it ended, the keeper of batches then, and all batches that its administrator accepted.
-    pub(crate) fn ended<S: Sharing>(self, end: ServiceEnd, last: &K, admin: &Admin<S>) -> Self
+    pub(crate) fn ended<S: Sharing>(self, end: ServiceEnd, last: &K, admin: &Admin<S, K>) -> Self
         ensures ended { result ≡ record self { outcome = end.outcome; cause = end.cause; last = last.now; accepted = all_of admin.now } }
         ensures accepted { IsSome (after accepted S.opening (all_of admin.now)) }
     {

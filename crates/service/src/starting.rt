@@ -1,24 +1,34 @@
 //! The threads of a service: that of clients and that of the input with whose end it ends.
 
-ghost use Rattle.std.specs.Prelude.{◌≡◌, IfErr, true};
-ghost use Rattle.network.specs.Announcing.{is_service_failure};
+ghost use Rattle.std.specs.Prelude.{◌≡◌, IfErr, IfOk, Ok, true};
+ghost use Rattle.network.specs.Announcing.{GoesOnAfter, is_service_failure};
+ghost use Rattle.network.specs.declared.logging.LoggedPoller.{LoggedPoller};
 ghost use Rattle.network.specs.Ports.{requested};
+ghost use Rattle.service.specs.Serving.{WereServed};
 
 use crate::administering::Administering;
-use crate::clients::{ClientFlags, ClientSide, serve_clients};
-use accesslog::LogQueue;
+use crate::clients::{ClientFlags, ClientSide, ServesClients, serve_clients};
+use crate::flags::{Flag, Stopped, Unread};
+use crate::signals::{ClientSignals, StopSignal, Wakers, signals_of};
+use crate::started::Starting;
+use accesslog::{LogQueue, LoggedTransport};
 use console::Failure;
 use eventloop::{Poller, Wakes};
 use mapshare::{Reader, Sharing};
 use network::{
-    Accepting, Administrators, ClientSignals, IntoTransport, Logs, Network, Port, PortFor, Ports,
-    Runtime, Starting, StopSignal, Wakers, signals_of,
+    Accepting, Administrators, IntoTransport, Logs, Network, Port, PortFor, Ports, Runtime,
 };
 use std::alloc::Global;
+use std::marker::PhantomData;
 use std::sync::Arc;
-use std::sync::atomic::{AtomicBool, Ordering};
-use std::thread::{self, JoinHandle, Threads};
+use std::thread::{self, PromisedHandle};
 use turns::Transport;
+
+/// The thread of clients, which promises how it ends.
+pub(crate) type ClientsThread<S, R, T, Q> = PromisedHandle<
+    Result<(), Failure>,
+    ServesClients<S, R, T, Q>,
+>;
 
 // Answers the connections of clients, up to the last. Where that fails or stops, the thread of administrators gets the signal.
 fn serve_all<S, R, C, T, P, Q, W>(
@@ -35,14 +45,16 @@ where
     P: Port<C> + Drop,
     Q: Poller<T> + Send + Drop + 'static,
     W: Wakes,
+    ensures ends { GoesOnAfter (Ok tt) result }
+    ensures clients { WereServed (LoggedPoller Q) ⟦<LoggedTransport<T, R> as Transport>⟧ S.opening side.service result }
 {
     let flags = ClientFlags {
         starting: &signals.starting,
         is_stopped: &signals.is_stopped,
     };
-    let (served, _workers) = serve_clients::<S, R, C, T, P, Q>(rt, readers, side, flags);
-    signals.is_left.store(true, Ordering::SeqCst);
-    if served.is_err() || signals.is_stopped.load(Ordering::SeqCst) {
+    let served = serve_clients::<S, R, C, T, P, Q>(rt, readers, side, flags);
+    signals.is_left.set();
+    if served.is_err() || signals.is_stopped.is_set() {
         signals.is_over.give();
     }
     served
@@ -54,7 +66,7 @@ fn start_clients<S, R, C, T, P, Q, W>(
     readers: Vec<Reader<S>>,
     side: ClientSide<P, Q, R>,
     signals: ClientSignals<W>,
-) -> Result<JoinHandle<Result<(), Failure>>, Failure>
+) -> Result<ClientsThread<S, R, T, Q>, Failure>
 where
     S: Sharing + Send + Sync + 'static,
     R: Runtime,
@@ -64,9 +76,14 @@ where
     Q: Poller<T> + Send + Drop + 'static,
     W: Wakes + Send + Drop + 'static,
     ensures failed { IfErr result (λ failure. is_service_failure failure ≡ true) }
+    ensures promised { IfOk result (λ thread. thread.promise.service ≡ side.service) }
 {
     let handle = *rt;
-    match thread::spawn(rt, move || {
+    let promise = ServesClients {
+        service: side.service,
+        of: PhantomData,
+    };
+    match thread::spawn_with(rt, promise, move || {
         serve_all::<S, R, C, T, P, Q, W>(&handle, readers, side, &signals)
     }) {
         Ok(child) => Ok(child),
@@ -76,24 +93,20 @@ where
 
 /// A service whose threads are started.
 #[derive(Drop)]
-pub(crate) struct Started<P, R, W: Wakes> {
+pub(crate) struct Started<S: Sharing, R: Runtime, N: Network> {
     /// The thread that accepts clients.
-    pub clients: JoinHandle<Result<(), Failure>>,
+    pub clients: ClientsThread<S, R, N::Transport, N::Poller>,
     /// The side of administrators.
-    pub administering: Administering<P, R>,
+    pub administering: Administering<N::Port, R>,
     /// Has the thread of clients stop.
-    pub stop: StopSignal<W>,
+    pub stop: StopSignal<Stopped, N::Waker>,
     /// The input with whose end the service ends could not be read.
-    pub has_failed: Arc<AtomicBool, Global>,
+    pub has_failed: Arc<Flag<Unread>, Global>,
 }
 
-impl<P, R, W: Wakes + Drop> Started<P, R, W> {
+impl<S: Sharing, R: Runtime, N: Network> Started<S, R, N> {
     /// Ends the service, of which nobody was told.
-    pub fn end<T: Threads>(self, rt: &T)
-    where
-        P: Drop,
-        R: Drop,
-    {
+    pub fn end(self, rt: &R) {
         let Started { clients, stop, .. } = self;
         stop.give();
         let _ = clients.join(rt);
@@ -113,6 +126,7 @@ fn sides_of<N: Network, R>(
     ensures clients { (result.1.port.port ≡ ports.clients) × (result.1.pollers ≡ ports.pollers) × (result.1.service ≡ ports.service) }
     ensures connections { (result.1.port.remaining ≡ requested ports.service.connections)
         × (result.2.remaining ≡ requested ports.service.connections) }
+    ensures reserve { N.Port.keeps_reserve result.2.port.port ≡ true }
 {
     let connections = ports.service.connections;
     let wakers = Wakers {
@@ -133,12 +147,13 @@ fn sides_of<N: Network, R>(
 }
 
 // Waits until the workers of clients are started. Where one can't be, it waits for the end of their thread.
-fn started_clients<R: Runtime>(
+fn started_clients<S: Sharing, R: Runtime, T: Transport + Drop, Q: Drop>(
     rt: &R,
     starting: &Starting,
-    clients: JoinHandle<Result<(), Failure>>,
-) -> Result<JoinHandle<Result<(), Failure>>, Failure>
+    clients: ClientsThread<S, R, T, Q>,
+) -> Result<ClientsThread<S, R, T, Q>, Failure>
     ensures failed { IfErr result (λ failure. is_service_failure failure ≡ true) }
+    ensures same { IfOk result (λ thread. thread ≡ clients) }
 {
     if starting.wait(rt) {
         return Ok(clients);
@@ -150,17 +165,14 @@ fn started_clients<R: Runtime>(
 }
 
 /// Starts the threads of clients and of the input's end.
-pub(crate) fn start_sides<S, R, N>(
+pub(crate) fn start_sides<S: Sharing + Send + Sync + 'static, R: Runtime, N: Network>(
     rt: &R,
     readers: Vec<Reader<S>>,
     ports: Ports<N::Port, N::Waker, N::Poller, N::Input>,
     logs: Logs<R>,
-) -> Result<Started<N::Port, R, N::Waker>, Failure>
-where
-    S: Sharing + Send + Sync + 'static,
-    R: Runtime,
-    N: Network,
+) -> Result<Started<S, R, N>, Failure>
     ensures failed { IfErr result (λ failure. is_service_failure failure ≡ true) }
+    ensures promised { IfOk result (λ started. started.clients.promise.service ≡ ports.service) }
 {
     let (wakers, side, port) = sides_of::<N, R>(ports, logs.clients);
     let signals = signals_of(rt, wakers)?;

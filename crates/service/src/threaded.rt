@@ -3,13 +3,15 @@
 ghost use Rattle.std.specs.Prelude.{◌≡◌, ◌++◌, ℕ, List, IsErr, IsSome, MatchResult, None, Some, Ok, Err};
 ghost use Rattle.batches.specs.Batch.{accepted};
 ghost use Rattle.sharing.specs.Sharing.{after};
-ghost use Rattle.administration.specs.Keeping.{IsKeptSince};
+ghost use Rattle.administration.specs.Keeping.{IsKeptSince, NoneLost};
 ghost use Rattle.network.specs.Announcing.{HasAnnounced, GoesOnAfter};
-ghost use Rattle.service.specs.Serving.{IsServiceOf};
+ghost use Rattle.network.specs.declared.logging.LoggedPoller.{LoggedPoller};
+ghost use Rattle.service.specs.Serving.{IsServiceOf, LosesNone, NamesCause, WereServed};
 
 use crate::administering::administer_all;
 use crate::served::{Served, ServiceEnd};
 use crate::starting::{Started, start_sides};
+use accesslog::LoggedTransport;
 use console::{Failure, Writes};
 use history::Blank;
 use keepers::Keeps;
@@ -17,8 +19,8 @@ use mapmachine::Machine;
 use mapshare::{Admin, KeepFailed, Reader, ShareFault, Sharing, open};
 use network::{Addresses, Logs, Network, Ports, Runtime, start_log};
 use std::marker::Brand;
-use std::sync::atomic::Ordering;
 use streams::Sink;
+use turns::Transport;
 
 // How a service ended whose threads have ended: the keeper of batches failed, or the input with whose end it ends, or as the thread of clients did.
 fn end_of(kept: Result<(), KeepFailed>, has_failed: bool, served: Result<(), Failure>) -> ServiceEnd
@@ -26,6 +28,7 @@ fn end_of(kept: Result<(), KeepFailed>, has_failed: bool, served: Result<(), Fai
     ensures kept { IsErr kept → result.outcome ≡ Err Failure.JournalFailed }
     ensures journal { result.outcome ≡ Err Failure.JournalFailed → IsErr kept }
     ensures cause { MatchResult kept (λ _. result.cause ≡ None) (λ failed. result.cause ≡ Some failed.cause) }
+    ensures well { result.outcome ≡ Ok tt → served ≡ Ok tt }
 {
     if let Err(KeepFailed { cause }) = kept {
         return ServiceEnd {
@@ -44,10 +47,10 @@ fn end_of(kept: Result<(), KeepFailed>, has_failed: bool, served: Result<(), Fai
 // Serves clients in other threads and administrators in this one.
 fn serve_started<S, R, N, K>(
     rt: &R,
-    admin: Admin<S>,
+    admin: Admin<S, K>,
     keeper: &mut K,
-    started: Started<N::Port, R, N::Waker>,
-) -> (Admin<S>, ServiceEnd)
+    started: Started<S, R, N>,
+) -> (Admin<S, K>, ServiceEnd)
 where
     S: Sharing + Send + Sync + 'static,
     R: Runtime,
@@ -57,6 +60,10 @@ where
     ensures ends { GoesOnAfter (Ok tt) result.1.outcome }
     ensures kept { (kept : List (List ℕ)) → K.keeps keeper.old kept → (result.1.outcome ≡ Err Failure.JournalFailed → ⊥)
         → IsKeptSince K.keeps admin kept result.0 keeper.new }
+    ensures crash { NoneLost ⟦<K as Keeps>⟧ S.opening admin keeper.old result.0 keeper.new }
+    ensures cause { NamesCause K.fails result.1.cause }
+    ensures clients { WereServed (LoggedPoller N.Poller) ⟦<LoggedTransport<N::Transport, R> as Transport>⟧ S.opening started.clients.promise.service
+        result.1.outcome }
 {
     let Started {
         clients,
@@ -74,31 +81,19 @@ where
         stop.give();
     }
     let served = clients.join(rt);
-    let end = end_of(kept, has_failed.load(Ordering::SeqCst), served);
+    let end = end_of(kept, has_failed.is_set(), served);
     (admin, end)
 }
 
 // A map that is shared, the ports at which it is served, and the logs of that.
-struct Opened<S: Sharing, R, P, W, Q, I> {
-    admin: Admin<S>,
+struct Opened<S: Sharing, K, R, N: Network> {
+    admin: Admin<S, K>,
     readers: Vec<Reader<S>>,
-    ports: Ports<P, W, Q, I>,
+    ports: Ports<N::Port, N::Waker, N::Poller, N::Input>,
     logs: Logs<R>,
 }
 
-impl<S: Sharing, R: Drop, P: Drop, W: Drop, Q: Drop, I: Drop> Opened<S, R, P, W, Q, I> {
-    // A map that is shared, with no log yet.
-    fn unlogged(admin: Admin<S>, readers: Vec<Reader<S>>, ports: Ports<P, W, Q, I>) -> Self
-        ensures { (result.admin ≡ admin) × (result.ports ≡ ports) }
-    {
-        Opened {
-            admin,
-            readers,
-            ports,
-            logs: Logs::none(),
-        }
-    }
-
+impl<S: Sharing, K, R: Drop, N: Network> Opened<S, K, R, N> {
     // The same map with these logs.
     fn logged(self, logs: Logs<R>) -> Self
         ensures { (result.admin ≡ self.admin) × (result.ports ≡ self.ports) }
@@ -118,7 +113,7 @@ impl<S: Sharing, R: Drop, P: Drop, W: Drop, Q: Drop, I: Drop> Opened<S, R, P, W,
     }
 
     // The administrator of a map that isn't served.
-    fn into_admin(self) -> Admin<S>
+    fn into_admin(self) -> Admin<S, K>
         ensures { result ≡ self.admin }
     {
         let Opened {
@@ -134,10 +129,10 @@ impl<S: Sharing, R: Drop, P: Drop, W: Drop, Q: Drop, I: Drop> Opened<S, R, P, W,
 // Starts the threads, writes the addresses of the ports, and serves.
 fn serve_both<S, R, N, K, O>(
     rt: &R,
-    opened: Opened<S, R, N::Port, N::Waker, N::Poller, N::Input>,
+    opened: Opened<S, K, R, N>,
     keeper: &mut K,
     output: &mut O,
-) -> (Admin<S>, ServiceEnd)
+) -> (Admin<S, K>, ServiceEnd)
 where
     S: Sharing + Send + Sync + 'static,
     R: Runtime,
@@ -149,6 +144,9 @@ where
         (⟦<O as Writes>⟧.state output.old) (⟦<O as Writes>⟧.state output.new) }
     ensures kept { (kept : List (List ℕ)) → K.keeps keeper.old kept → (result.1.outcome ≡ Err Failure.JournalFailed → ⊥)
         → IsKeptSince K.keeps opened.admin kept result.0 keeper.new }
+    ensures crash { NoneLost ⟦<K as Keeps>⟧ S.opening opened.admin keeper.old result.0 keeper.new }
+    ensures cause { NamesCause K.fails result.1.cause }
+    ensures clients { WereServed (LoggedPoller N.Poller) ⟦<LoggedTransport<N::Transport, R> as Transport>⟧ S.opening opened.ports.service result.1.outcome }
 {
     let Opened {
         admin,
@@ -176,10 +174,10 @@ where
 // Serves a shared map, and logs the events of clients and administrators, if the service has a log.
 fn serve_logged<S, R, N, K, O>(
     rt: &R,
-    opened: Opened<S, R, N::Port, N::Waker, N::Poller, N::Input>,
+    opened: Opened<S, K, R, N>,
     keeper: &mut K,
     output: &mut O,
-) -> (Admin<S>, ServiceEnd)
+) -> (Admin<S, K>, ServiceEnd)
 where
     S: Sharing + Send + Sync + 'static,
     R: Runtime,
@@ -191,6 +189,9 @@ where
         (⟦<O as Writes>⟧.state output.old) (⟦<O as Writes>⟧.state output.new) }
     ensures kept { (kept : List (List ℕ)) → K.keeps keeper.old kept → (result.1.outcome ≡ Err Failure.JournalFailed → ⊥)
         → IsKeptSince K.keeps opened.admin kept result.0 keeper.new }
+    ensures crash { NoneLost ⟦<K as Keeps>⟧ S.opening opened.admin keeper.old result.0 keeper.new }
+    ensures cause { NamesCause K.fails result.1.cause }
+    ensures clients { WereServed (LoggedPoller N.Poller) ⟦<LoggedTransport<N::Transport, R> as Transport>⟧ S.opening opened.ports.service result.1.outcome }
 {
     if !opened.ports.service.logs {
         return serve_both::<S, R, N, K, O>(rt, opened, keeper, output);
@@ -241,6 +242,9 @@ where
     ensures kept { (batches : List (List ℕ)) → K.keeps map.kept.keeper batches → (result.outcome ≡ Err Failure.JournalFailed → ⊥)
         → K.keeps result.last (batches ++ result.accepted) }
     ensures accepted { IsSome (after accepted S.opening result.accepted) }
+    ensures crash { LosesNone ⟦<K as Keeps>⟧ S.opening map.kept.keeper result.last }
+    ensures cause { NamesCause K.fails result.cause }
+    ensures clients { WereServed (LoggedPoller N.Poller) ⟦<LoggedTransport<N::Transport, R> as Transport>⟧ S.opening ports.service result.outcome }
 {
     let UnsharedMap { kept, blank } = map;
     let Kept {
@@ -249,11 +253,16 @@ where
     } = kept;
     let served = Served::begin(&machine, &keeper, &ports);
     let workers = usize::from(ports.service.workers);
-    match open::<S, R>(rt, blank, &machine, workers) {
+    match open::<S, K, R>(rt, blank, &machine, workers) {
         Ok((admin, readers)) => {
             // Its features would stay in memory when a batch has emptied their layer.
             drop(machine);
-            let opened = Opened::unlogged(admin, readers, ports);
+            let opened = Opened {
+                admin,
+                readers,
+                ports,
+                logs: Logs::none(),
+            };
             let (admin, end) = serve_logged::<S, R, N, K, O>(rt, opened, &mut keeper, output);
             let served = served.ended(end, &keeper, &admin);
             admin.close(rt);
@@ -280,6 +289,15 @@ pub fn serve_by_threads<R: Runtime, N: Network, K: Keeps + Drop, O: Sink>(
     ensures kept { (batches : List (List ℕ)) → K.keeps kept.keeper batches → (result.outcome ≡ Err Failure.JournalFailed → ⊥)
         → K.keeps result.last (batches ++ result.accepted) }
     ensures accepted { IsSome (after accepted kept.machine result.accepted) }
+
+    // Whatever a crash leaves stands for the batches that were kept, and some that are accepted after them.
+    ensures crash { LosesNone ⟦<K as Keeps>⟧ kept.machine kept.keeper result.last }
+
+    // Where the keeper failed, a call of it did.
+    ensures cause { NamesCause K.fails result.cause }
+
+    // All workers answered their clients, as readers of this map.
+    ensures clients { WereServed (LoggedPoller N.Poller) ⟦<LoggedTransport<N::Transport, R> as Transport>⟧ kept.machine ports.service result.outcome }
 {
     let map = UnsharedMap {
         kept,

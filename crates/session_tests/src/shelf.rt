@@ -1,6 +1,6 @@
 //! A host in memory: its files, and ports with letters for their events.
 
-ghost use Rattle.std.specs.Prelude.{◌≡◌, IfSome, None};
+ghost use Rattle.std.specs.Prelude.{◌≡◌, IfSome, None, true};
 ghost use Rattle.std.specs.Io.Buffered.{reader_inner};
 
 use crate::memory::{Memory, stream_of};
@@ -294,6 +294,8 @@ impl Letters {
 impl Port<Call> for Letters {
     ghost log = { λ _. None };
 
+    ghost keeps_reserve = { λ _. true };
+
     ghost address = { λ _. None };
 
     fn address(&self, alloc: Global) -> Result<Text, AddressFault> {
@@ -416,6 +418,8 @@ impl Host for Shelf<'_> {
     ghost journal = { λ _ _ _. Unit {0} };
 
     ghost listens = { λ _ _ _. Unit {0} };
+
+    ghost refuses = { λ _ _ _. Unit {0} };
 
     fn listen(&self, number: u16) -> Result<Letters, ListenFailed> {
         let port = match number {

@@ -4,6 +4,7 @@ use crate::maps::{machine, shown};
 use crate::memory::{Coming, Going};
 use administration::{Client, administer};
 use history::Blank;
+use keepers::Nowhere;
 use mapmachine::Machine;
 use mapshare::{Admin, Sharing, open};
 use std::alloc::{AllocError, Global};
@@ -40,9 +41,9 @@ fn pipe_of(
 // Serves connections, one after the other.
 fn serve_pipes<S: Sharing, R: AllocGlobal + Wait>(
     rt: &R,
-    admin: Admin<S>,
+    admin: Admin<S, Nowhere>,
     pipes: &mut Vec<Pipe>,
-) -> Admin<S> {
+) -> Admin<S, Nowhere> {
     let mut admin = admin;
     for pipe in pipes.iter_mut() {
         let (after, served) = administer(rt, admin, &mut pipe.client);
@@ -63,7 +64,7 @@ fn share<S: Sharing, R: AllocGlobal + Wait>(
     requires history { blank.seen.book ≡ S.book }
     requires opening { machine.now ≡ S.opening }
 {
-    let Ok((admin, _readers)) = open::<S, R>(rt, blank, machine, 1) else {
+    let Ok((admin, _readers)) = open::<S, Nowhere, R>(rt, blank, machine, 1) else {
         return false;
     };
     let admin = serve_pipes(rt, admin, pipes);

@@ -3,6 +3,7 @@ ghost use Rattle.std.specs.Prelude.{◌≡◌};
 use crate::maps::machine;
 use history::Blank;
 use httpedge::Asks;
+use keepers::Nowhere;
 use mapmachine::{Machine, Mime};
 use mapshare::{Reader, ShareFault, Sharing, Submitted, open};
 use std::alloc::{AllocError, Global};
@@ -20,7 +21,7 @@ fn opened<S: Sharing, R: AllocGlobal + Wait>(
     requires history { blank.seen.book ≡ S.book }
     requires opening { machine.now ≡ S.opening }
 {
-    match open::<S, R>(rt, blank, machine, count) {
+    match open::<S, Nowhere, R>(rt, blank, machine, count) {
         Ok((admin, readers)) => {
             let count = readers.len();
             admin.close(rt);
@@ -84,7 +85,7 @@ fn switched<S: Sharing, R: AllocGlobal + Wait>(
     requires history { blank.seen.book ≡ S.book }
     requires opening { machine.now ≡ S.opening }
 {
-    let (admin, mut readers) = open::<S, R>(rt, blank, machine, 2).ok()?;
+    let (admin, mut readers) = open::<S, Nowhere, R>(rt, blank, machine, 2).ok()?;
     let (Some(mut first), Some(mut second)) = (readers.pop(), readers.pop()) else {
         admin.close(rt);
         return None;

@@ -23,13 +23,19 @@ struct Counted {
 }
 
 impl Keeps for Counted {
+    ghost reliable = { Unit {0} };
+
     ghost keeps = { λ _ _. Unit {0} };
 
-    ghost may_leave = { λ _ _ _. ⊥ };
+    ghost moment = { λ _. 0 };
+
+    ghost left_since = { λ _ _ _. ⊥ };
 
     ghost stands = { λ _ _ _. Unit {0} };
 
-    ghost stays = { λ _ _ _ _ _. tt };
+    ghost fails = { λ _. Unit {0} };
+
+    ghost stays = { λ _ _ _ _ _ _. tt };
 
     fn keep(&mut self, batches: &[Vec<u8>]) -> Result<(), KeepFault> {
         self.calls = self.calls.saturating_add(1);
@@ -79,7 +85,7 @@ fn serve<S: Sharing, R: AllocGlobal + Wait>(
     requires history { blank.seen.book ≡ S.book }
     requires opening { machine.now ≡ S.opening }
 {
-    let (admin, _readers) = open::<S, R>(rt, blank, machine, 1).ok()?;
+    let (admin, _readers) = open::<S, Counted, R>(rt, blank, machine, 1).ok()?;
     let (admin, served) = administer_kept(rt, admin, &mut pipe.keeper, &mut pipe.client);
     admin.close(rt);
     Some(end_of(rt.alloc(), &pipe, served))

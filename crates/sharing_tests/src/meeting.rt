@@ -4,6 +4,7 @@ use crate::calls::{Calls, HEAD};
 use crate::maps::machine;
 use blocking::{Gate, work};
 use history::Blank;
+use keepers::Nowhere;
 use mapmachine::Machine;
 use mapshare::{Sharing, open};
 use std::alloc::{AllocError, Global};
@@ -58,7 +59,7 @@ where
     requires history { blank.seen.book ≡ S.book }
     requires opening { machine.now ≡ S.opening }
 {
-    match open::<S, R>(rt, blank, machine, 2) {
+    match open::<S, Nowhere, R>(rt, blank, machine, 2) {
         Ok((admin, readers)) => {
             let done = work(rt, readers, calls, gate);
             admin.close(rt);

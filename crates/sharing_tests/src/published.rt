@@ -1,6 +1,7 @@
 ghost use Rattle.std.specs.Prelude.{◌≡◌};
 
 use history::Blank;
+use keepers::Nowhere;
 use mapdefs::{Items, Map};
 use mapmachine::Machine;
 use mapshare::{Reader, Retried, Sharing, Submitted, open};
@@ -42,7 +43,7 @@ fn play<S: Sharing, R: AllocGlobal + Wait>(
     requires history { blank.seen.book ≡ S.book }
     requires opening { machine.now ≡ S.opening }
 {
-    let (admin, mut readers) = open::<S, R>(rt, blank, machine, 2).ok()?;
+    let (admin, mut readers) = open::<S, Nowhere, R>(rt, blank, machine, 2).ok()?;
     let (Some(mut first), Some(mut second)) = (readers.pop(), readers.pop()) else {
         admin.close(rt);
         return None;

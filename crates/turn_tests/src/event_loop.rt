@@ -87,7 +87,7 @@ fn queries_of<R: AllocGlobal + Clock + Wait + Threads + Send + Copy + Drop + 'st
     let (mut workers, all) = workers_of(rt, system, count, slots)?;
     for number in 1..8 {
         let client = asking(rt.alloc(), number)?;
-        workers.hand_over(rt, client);
+        workers.hand_over(rt, Some(client));
     }
     workers.end(rt, Ending::Finishes);
     Ok(queries_text(rt, &all)?)

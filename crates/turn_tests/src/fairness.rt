@@ -61,7 +61,7 @@ fn asked_of<R: AllocGlobal + Clock + Wait + Threads + Send + Copy + Drop + 'stat
             after: *after,
             got: Arc::new(alloc, Mutex::new(Vec::new(alloc)))?,
         };
-        workers.hand_over(rt, client);
+        workers.hand_over(rt, Some(client));
     }
     workers.end(rt, Ending::Finishes);
     let mut text = String::new(alloc);

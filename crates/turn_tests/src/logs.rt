@@ -190,7 +190,7 @@ fn logged_of<R: AllocGlobal + Clock + Wait + Threads + Send + Copy + Drop + 'sta
     let worker = Worker::new(alloc, asks, poller, Capacity { slots: 1, timeouts })?;
     start_worker(rt, alloc, &mut workers, worker)?;
     let logged = LoggedTransport::new(alloc, client, 9, queue.share().ok());
-    workers.hand_over(rt, logged);
+    workers.hand_over(rt, Some(logged));
     workers.end(rt, Ending::Finishes);
     for _ in 0..4 {
         add(&mut text, queue.take(alloc))?;

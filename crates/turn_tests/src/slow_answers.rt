@@ -52,7 +52,7 @@ fn asked_of<R: AllocGlobal + Clock + Wait + Threads + Send + Copy + Drop + 'stat
     start_worker(rt, alloc, &mut workers, worker)?;
     for (sends, pace) in clients {
         let client = Client::new(alloc, sends, true)?.paced(pace, &[10_000]);
-        workers.hand_over(rt, client);
+        workers.hand_over(rt, Some(client));
     }
     workers.end(rt, Ending::Finishes);
     let mut text = String::new(alloc);

@@ -58,7 +58,7 @@ fn taken_of<R: AllocGlobal + Clock + Wait + Threads + Send + Copy + Drop + 'stat
         },
     )?;
     start_worker(rt, alloc, &mut workers, worker)?;
-    workers.hand_over(rt, client);
+    workers.hand_over(rt, Some(client));
     wait_for_bytes(rt, system, &taken);
     workers.end(rt, Ending::Stops);
     let bytes = taken.lock(rt);

@@ -96,7 +96,7 @@ fn clients_with_a_place<R: AllocGlobal + Clock + Wait + Threads + Send + Copy + 
             break;
         }
         let gave_way = Arc::try_clone(&gave_way)?;
-        workers.hand_over(rt, Silent { rt: *rt, gave_way });
+        workers.hand_over(rt, Some(Silent { rt: *rt, gave_way }));
         count = count.saturating_add(1);
     }
     workers.end(rt, Ending::Stops);
@@ -145,7 +145,7 @@ fn pressed_in_turn<R: AllocGlobal + Clock + Wait + Threads + Send + Copy + Drop 
     let mut workers = two_workers(rt, system, 4)?;
     for _ in 0..2 {
         let gave_way = Arc::try_clone(&gave_way)?;
-        workers.hand_over(rt, Silent { rt: *rt, gave_way });
+        workers.hand_over(rt, Some(Silent { rt: *rt, gave_way }));
     }
     // nobody gives way within a second, and after a tenth of it a worker notes whether it serves
     thread::sleep(system, Duration::from_millis(1_300));

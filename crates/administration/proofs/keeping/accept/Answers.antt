@@ -1,8 +1,9 @@
-use Rattle.std.proofs.Common.{◌∙◌, take, arith, ap, length-take-le}
+use Rattle.std.proofs.Common.{◌∙◌, take, arith, ap, sym, subst, length-take-le}
 use Rattle.std.proofs.lemmas.List.{length-map}
 use Rattle.journal.specs.Texts.{texts_of}
-use Rattle.mapshare.specs.Admin.{all_of}
+use Rattle.mapshare.specs.Admin.{IsAccepted, all_of}
 use Rattle.administration.proofs.Groups.{all-with, front-done, results-few, results-some, same-all, some-pending}
+use Rattle.administration.proofs.KeptBatches.{none_lost_as, none_lost_kept}
 use Rattle.administration.proofs.keeping.accept.Goals as goal
 
 pub publish_accepted-admin-requires : goal.publish_accepted-admin-requires
@@ -40,3 +41,15 @@ returns-clause-kept g c kept was =
           ∙ (ap all_of c.in-Ok.ensures.accepted.pending ∙ all-with c.args.admin first),
       c.in-Ok.ensures.kept kept was,
     )
+
+pub returns-in-Err-clause-crash : goal.returns-in-Err-clause-crash
+returns-in-Err-clause-crash g c =
+    none_lost_kept g.K.Keeps g.S.Sharing.opening c.args.admin c.accept_kept.new.self c.args.keeper.now c.accept_kept.new.keeper (texts_of c.args.batches.now)
+    (λ is. subst (IsAccepted g.S.Sharing.opening) (sym c.in-Err.ensures.failed.4) is) c.accept_kept.ensures.same_file c.accept_kept.ensures.any_moment
+
+pub returns-clause-crash : goal.returns-clause-crash
+returns-clause-crash g c =
+    none_lost_as g.K.Keeps g.S.Sharing.opening c.args.admin c.accept_kept.new.self c.publish_accepted-admin.result.0 c.args.keeper.now c.accept_kept.new.keeper
+    (same-all g.S.Sharing.opening c.accept_kept.new.self c.publish_accepted-admin.result.1 c.publish_accepted-admin.result.0 c.publish_accepted-admin.ensures.published)
+    (none_lost_kept g.K.Keeps g.S.Sharing.opening c.args.admin c.accept_kept.new.self c.args.keeper.now c.accept_kept.new.keeper (texts_of c.args.batches.now)
+    (λ is. c.in-Ok.ensures.accepted.made) c.accept_kept.ensures.same_file c.accept_kept.ensures.any_moment)

@@ -4,7 +4,7 @@ use Rattle.journal.specs.Texts.{texts_of}
 use Rattle.administration.specs.Keeping.{HasFailed, IsKeptSince, results_of}
 use Rattle.administration.specs.Serving.{AreSubmitted}
 use Rattle.administration.proofs.Groups.{nothing-left, submitted-more, texts-drop}
-use Rattle.administration.proofs.KeptBatches.{more_kept, same_kept}
+use Rattle.administration.proofs.KeptBatches.{more_kept, none_lost, none_lost_more, same_kept}
 use Rattle.administration.proofs.keeping.accept_all.Goals as goal
 
 pub loop-rest-init : goal.loop-rest-init
@@ -14,6 +14,7 @@ loop-rest-init g c = rw c.new-results.ensures (record {
   done = refl;
   ready = c.requires.ready;
   keeps = λ kept was. same_kept g.K.Keeps.keeps c.args.admin c.args.admin kept c.args.keeper.now refl was;
+  crash = none_lost g.K.Keeps g.S.Sharing.opening g.met.K.Keeps.stays c.args.admin c.args.keeper.now;
 })
 
 pub returns-in-Err-clause-failed : goal.returns-in-Err-clause-failed
@@ -24,6 +25,11 @@ returns-in-Err-clause-failed g c =
     let has : HasFailed g.S.Sharing.opening c.loop-rest.admin (texts_of c.loop-rest.rest.now) × (c.accept-after.result.0 ≡ c.loop-rest.admin) = rw c.in-Err.is at c.accept-after.ensures.done in
     let left : texts_of c.loop-rest.rest.now ≡ drop count texts = ap texts_of before.rest ∙ texts-drop count c.args.batches.now in
     rw has.1 (take count texts, drop count texts, sym (take-append-drop count texts), before.done, subst (HasFailed g.S.Sharing.opening c.loop-rest.admin) left has.0)
+
+pub returns-in-Err-clause-crash : goal.returns-in-Err-clause-crash
+returns-in-Err-clause-crash g c =
+    let before = c.loop-rest.invariant in
+    none_lost_more g.K.Keeps g.S.Sharing.opening c.args.admin c.loop-rest.admin c.accept-after.result.0 c.args.keeper.now c.loop-rest.keeper c.accept-after.new.keeper before.crash before.keeps c.accept-after.ensures.crash
 
 pub loop-rest-preserved : goal.loop-rest-preserved
 loop-rest-preserved g c =
@@ -46,6 +52,7 @@ loop-rest-preserved g c =
           (subst (λ (l : List (List ℕ)). AreSubmitted opening c.loop-rest.admin (take (length more) l) more c.accept-after.result.0) left done));
       ready = (_, (step was has).2);
       keeps = λ kept is. more_kept g.K.Keeps.keeps c.args.admin c.loop-rest.admin c.accept-after.result.0 kept c.loop-rest.keeper c.accept-after.new.keeper (before.keeps kept is) step;
+      crash = none_lost_more g.K.Keeps opening c.args.admin c.loop-rest.admin c.accept-after.result.0 c.args.keeper.now c.loop-rest.keeper c.accept-after.new.keeper before.crash before.keeps c.accept-after.ensures.crash;
     }
 
 pub returns-clause-done : goal.returns-clause-done

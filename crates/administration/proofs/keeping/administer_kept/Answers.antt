@@ -8,7 +8,7 @@ use Rattle.administration.specs.Reading.{HasNext}
 use Rattle.administration.specs.Serving.{AreSubmitted, lines_of}
 use Rattle.administration.specs.declared.group.Next.TheVariants as next
 use Rattle.administration.proofs.Groups.{failed-counted, group-cut, group-failed, group-more, next-read, other-cut, results-within}
-use Rattle.administration.proofs.KeptBatches.{as_kept, more_kept, same_kept}
+use Rattle.administration.proofs.KeptBatches.{as_kept, more_kept, none_lost, none_lost_as, none_lost_more, same_kept}
 use Rattle.administration.proofs.Steps.{came-to-end, came-to-malformed, good-match, known-err, known-good, known-match, known-ok, nothing-came, one-more}
 use Rattle.administration.proofs.keeping.administer_kept.Goals as goal
 
@@ -20,6 +20,7 @@ loop-init g c = record {
   flag = refl;
   ready = c.requires.ready;
   keeps = λ kept was. same_kept g.K.Keeps.keeps c.args.admin c.args.admin kept c.args.keeper.now refl was;
+  crash = none_lost g.K.Keeps g.S.Sharing.opening g.met.K.Keeps.stays c.args.admin c.args.keeper.now;
 }
 
 pub report-requires : goal.report-requires
@@ -78,6 +79,7 @@ loop-preserved-in-Nothing g c =
       flag = good-match c.report.result _ _ _ c.in_default.not-Err (λ x same. same) c.report.ensures.flag ∙ c.loop.invariant.flag;
       ready = (_, (step before has).2);
       keeps = λ kept was. more_kept g.K.Keeps.keeps c.args.admin c.loop.admin c.accept_all-after.result.0 kept c.loop.keeper c.accept_all-after.new.keeper (c.loop.invariant.keeps kept was) step;
+      crash = none_lost_more g.K.Keeps g.S.Sharing.opening c.args.admin c.loop.admin c.accept_all-after.result.0 c.args.keeper.now c.loop.keeper c.accept_all-after.new.keeper c.loop.invariant.crash c.loop.invariant.keeps c.accept_all-after.ensures.crash;
     }
 
 pub returns-in-End-clause-served : goal.returns-in-End-clause-served
@@ -163,4 +165,25 @@ loop-preserved g c =
       keeps = λ kept was.
           as_kept g.K.Keeps.keeps c.args.admin c.accept_all-after.result.0 c.perform_other-after.result.0 kept c.accept_all-after.new.keeper c.perform_other-after.ensures.same
           (more_kept g.K.Keeps.keeps c.args.admin c.loop.admin c.accept_all-after.result.0 kept c.loop.keeper c.accept_all-after.new.keeper (c.loop.invariant.keeps kept was) step);
+      crash =
+          none_lost_as g.K.Keeps g.S.Sharing.opening c.args.admin c.accept_all-after.result.0 c.perform_other-after.result.0 c.args.keeper.now c.accept_all-after.new.keeper c.perform_other-after.ensures.same
+          (none_lost_more g.K.Keeps g.S.Sharing.opening c.args.admin c.loop.admin c.accept_all-after.result.0 c.args.keeper.now c.loop.keeper c.accept_all-after.new.keeper c.loop.invariant.crash c.loop.invariant.keeps c.accept_all-after.ensures.crash);
     }
+
+pub returns-in-Err-clause-crash : goal.returns-in-Err-clause-crash
+returns-in-Err-clause-crash g c =
+    none_lost_more g.K.Keeps g.S.Sharing.opening c.args.admin c.loop.admin c.accept_all-after.result.0 c.args.keeper.now c.loop.keeper c.accept_all-after.new.keeper c.loop.invariant.crash c.loop.invariant.keeps c.accept_all-after.ensures.crash
+
+pub returns-in-End-clause-crash : goal.returns-in-End-clause-crash
+returns-in-End-clause-crash g c =
+    none_lost_more g.K.Keeps g.S.Sharing.opening c.args.admin c.loop.admin c.accept_all-after.result.0 c.args.keeper.now c.loop.keeper c.accept_all-after.new.keeper c.loop.invariant.crash c.loop.invariant.keeps c.accept_all-after.ensures.crash
+
+pub returns-then-is_err-clause-crash : goal.returns-then-is_err-clause-crash
+returns-then-is_err-clause-crash g c =
+    none_lost_as g.K.Keeps g.S.Sharing.opening c.args.admin c.accept_all-after.result.0 c.perform_other-after.result.0 c.args.keeper.now c.accept_all-after.new.keeper c.perform_other-after.ensures.same
+    (none_lost_more g.K.Keeps g.S.Sharing.opening c.args.admin c.loop.admin c.accept_all-after.result.0 c.args.keeper.now c.loop.keeper c.accept_all-after.new.keeper c.loop.invariant.crash c.loop.invariant.keeps c.accept_all-after.ensures.crash)
+
+pub returns-then-ends-clause-crash : goal.returns-then-ends-clause-crash
+returns-then-ends-clause-crash g c =
+    none_lost_as g.K.Keeps g.S.Sharing.opening c.args.admin c.accept_all-after.result.0 c.perform_other-after.result.0 c.args.keeper.now c.accept_all-after.new.keeper c.perform_other-after.ensures.same
+    (none_lost_more g.K.Keeps g.S.Sharing.opening c.args.admin c.loop.admin c.accept_all-after.result.0 c.args.keeper.now c.loop.keeper c.accept_all-after.new.keeper c.loop.invariant.crash c.loop.invariant.keeps c.accept_all-after.ensures.crash)

@@ -1,5 +1,5 @@
 use Rattle.std.proofs.Common.{◌≡◌, ℕ, List}
-use Rattle.administration.specs.Keeping.{IsKeptSince}
+use Rattle.administration.specs.Keeping.{IsKeptSince, NoneLost}
 use Rattle.streams.specs.Sides.{sides_view}
 use Rattle.administration.specs.Serving.{attended}
 use Rattle.administration.proofs.Steps.{HasCome}
@@ -14,4 +14,5 @@ invariant-loop g l = record {
   flag : g.O.Sink.put_failed l.client.writer ≡ g.O.Sink.put_failed l.fn.client.writer;
   ready : (kept : List (List ℕ)) × g.K.Keeps.keeps l.keeper kept;
   keeps : (kept : List (List ℕ)) → g.K.Keeps.keeps l.fn.keeper kept → IsKeptSince g.K.Keeps.keeps l.fn.admin kept l.admin l.keeper;
+  crash : NoneLost g.K.Keeps g.S.Sharing.opening l.fn.admin l.fn.keeper l.admin l.keeper;
 }

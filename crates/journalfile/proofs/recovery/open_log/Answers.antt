@@ -6,7 +6,7 @@ use Rattle.journal.specs.Record.{journal_of}
 use Rattle.journal.specs.Reading.{StandsFor, StandAlike}
 use Rattle.journal.proofs.Standing.{stands_torn}
 use Rattle.journalfile.specs.Steps.{MayCut}
-use Rattle.journalfile.proofs.Moments.{follows}
+use Rattle.keepers.proofs.Moments.{follows}
 use Rattle.journalfile.proofs.Standing.{cut_done, cut_crash}
 use Rattle.journalfile.proofs.recovery.open_log.Goals as goal
 

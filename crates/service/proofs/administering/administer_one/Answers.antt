@@ -1,6 +1,9 @@
-use Rattle.std.proofs.Common.{◌≡◌, ◌∙◌, ◌-◌, sym, ap, ap₂}
+use Rattle.std.proofs.Common.{◌≡◌, ◌∙◌, ◌-◌, sym, ap, ap₂, subst}
+use Rattle.std.specs.Prelude.{IfSome}
+use Rattle.administration.specs.Keeping.{IsCause}
+use Rattle.administration.proofs.KeptBatches.{none_lost}
 use Rattle.streams.specs.Sides.{sides_view}
-use Rattle.service.proofs.Administered.{administered, kept-of}
+use Rattle.service.proofs.Administered.{administered, cause-of, kept-of}
 use Rattle.service.proofs.administering.administer_one.Goals as goal
 
 pub returns-clause-served : goal.returns-clause-served
@@ -27,3 +30,9 @@ returns-clause-served g c =
 pub returns-clause-kept : goal.returns-clause-kept
 returns-clause-kept g c kept was e =
     kept-of c.administer_kept-admin.result.1 _ (c.administer_kept-admin.ensures.kept kept was) (sym c.cause_of.ensures ∙ e)
+
+pub returns-in_default-clause-crash : goal.returns-in_default-clause-crash
+returns-in_default-clause-crash g c = none_lost g.K.Keeps g.S.Sharing.opening g.met.K.Keeps.stays c.args.admin c.args.keeper.now
+
+pub returns-clause-cause : goal.returns-clause-cause
+returns-clause-cause g c = subst (λ o. IfSome o (IsCause g.K.Keeps.fails)) (sym c.cause_of.ensures) (cause-of c.administer_kept-admin.result.1 (IsCause g.K.Keeps.fails) c.administer_kept-admin.ensures.cause)

@@ -1,8 +1,18 @@
-use Rattle.service.proofs.Timing.{all-timed}
-use Rattle.turns.specs.Table.{timeouts_of as times_of}
+use Rattle.std.proofs.Common.{◌≡◌, ◌∙◌, Some, ap, length, refl}
+use Rattle.service.proofs.Timing.{goes-on, have-served}
 use Rattle.service.proofs.clients.serve_clients.Goals as goal
 
-pub returns-clause-timed : goal.returns-clause-timed
-returns-clause-timed g c =
+pub returns-in-Some-clause-ends : goal.returns-in-Some-clause-ends
+returns-in-Some-clause-ends g c = goes-on c.accept_all-served.result c.accept_all-served.ensures.failed
+
+pub returns-in-Some-clause-clients : goal.returns-in-Some-clause-clients
+returns-in-Some-clause-clients g c =
     let began = rw c.in-Ok.is at c.start_workers-started.ensures.began in
-    all-timed (λ workers. workers.items) (λ worker. times_of worker.table) c.args.side.service began.0 began.1 _ (c.end.ensures.times began.0 (rw c.accept_all-served.ensures.threads began.2))
+    let started : length c.in-Ok.workers.threads.items ≡ c.args.side.service.workers = rw c.in-Ok.is at c.start_workers-started.ensures.all in
+    record {
+      workers = Some c.in-Some._workers.items;
+      well = λ fine. refl;
+      served = have-served g.S.Sharing.opening _ c.args.side.service began.0 began.1 c.in-Some._workers.items
+          (c.in-Some.ensures.all ∙ (ap (λ t. length t.items) c.accept_all-served.ensures.threads ∙ started))
+          c.in-Some.ensures.served (c.in-Some.ensures.times began.0 (rw c.accept_all-served.ensures.threads began.2));
+    }

@@ -10,3 +10,6 @@ returns-in-Err-start_sides-clause-kept g c kept was other = same_kept g.K.Keeps.
 
 pub returns-clause-kept : goal.returns-clause-kept
 returns-clause-kept g c kept was other = same_kept g.K.Keeps.keeps c.args.opened.admin c.args.opened.admin kept c.args.keeper.now refl was
+
+pub returns-in-Ok-write-clause-clients : goal.returns-in-Ok-write-clause-clients
+returns-in-Ok-write-clause-clients g c = rw c.in-Ok-start_sides.ensures.promised at c.serve_started.ensures.clients

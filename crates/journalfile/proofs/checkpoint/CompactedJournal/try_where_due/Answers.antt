@@ -1,6 +1,6 @@
 use Rattle.std.proofs.Common.{ℕ, List}
 use Rattle.journalfile.specs.Keeping.{FileHas, kept_stands}
-use Rattle.journalfile.proofs.Moments.{started, weaker}
+use Rattle.keepers.proofs.Moments.{started, weaker}
 use Rattle.journalfile.proofs.Succeeding.{has_after, left_has}
 use Rattle.journalfile.specs.Compacting.{StandsForLeft}
 use Rattle.journalfile.proofs.checkpoint.CompactedJournal.try_where_due.Goals as goal

@@ -1,6 +1,6 @@
 use Rattle.std.proofs.Common.{◌∙◌}
 use Rattle.journalfile.specs.Compacting.{StandsForLeft}
-use Rattle.journalfile.proofs.Moments.{weaker}
+use Rattle.keepers.proofs.Moments.{weaker}
 use Rattle.journalfile.proofs.Succeeding.{still_settled, taking_place, unreplaced}
 use Rattle.journalfile.proofs.writing.Journal.compact.Goals as goal
 

@@ -10,7 +10,7 @@ use Rattle.journalfile.specs.Steps.{MayAppend}
 use Rattle.journal.specs.Reading.{StandsFor, StandsForFirst}
 use Rattle.journal.proofs.Standing.{stands, stands_first}
 use Rattle.journalfile.specs.Settled.{GarblesNoRecord}
-use Rattle.journalfile.proofs.Moments.{started, weaker}
+use Rattle.keepers.proofs.Moments.{started, weaker}
 use Rattle.journalfile.proofs.Standing.{add_crash}
 use Rattle.journalfile.proofs.writing.Journal.put.Goals as goal
 

@@ -10,6 +10,7 @@ use Rattle.mapshare.specs.Checking.{HasChecked, last_of}
 use Rattle.mapshare.specs.declared.checking.Accepted.{Accepted}
 use Rattle.mapshare.specs.declared.replica.Replica.{Replica}
 use Rattle.mapshare.specs.Queue.{IsChain}
+use Rattle.keepers.proofs.Moments.{started, weaker}
 use Rattle.mapshare.proofs.Accepting.{after_more, all_accepted, crash_leaves, has_accepted, none_more, out_of_memory, stays_first, texts_first}
 use Rattle.mapshare.proofs.Chains.{chain_all, chain_push, pending_more}
 use Rattle.mapshare.proofs.admin.Admin.accept_kept.Goals as goal
@@ -43,13 +44,14 @@ returns-in_default-clause-accepted g c =
     has_accepted opening a.checked (last_of a.checked c.check-last.result.1) c.args.self.now _ texts found is c.check-last.ensures.checked (c.self.view_is ∙ sym (none_more c.args.self.now found.count texts none))
 
 pub returns-in_default-clause-any_moment : goal.returns-in_default-clause-any_moment
-returns-in_default-clause-any_moment g c kept has file left =
+returns-in_default-clause-any_moment g c reliable kept has =
     let a = c.self.inside in
     let opening = g.S.Sharing.opening in
     let found = c.check-last.result.0 in
     let is = before opening a.checked a.published a.last (drop a.writer.behind a.writer.log.items ++ a.queue.items) c.args.self.now c.self.invariant.1 c.self.invariant.2 c.self.view_is in
-    crash_leaves opening a.checked (last_of a.checked c.check-last.result.1) c.args.self.now c.args.batches.now found kept (g.K.Keeps.stands c.args.keeper.now file) is c.check-last.ensures.checked
-    (stays_first kept (texts_of (take found.count c.args.batches.now)) (g.K.Keeps.stands c.args.keeper.now file) (g.met.K.Keeps.stays c.args.keeper.now kept file has left))
+    started g.K.Keeps.moment g.K.Keeps.left_since c.args.keeper.now _
+    (λ file left. crash_leaves opening a.checked (last_of a.checked c.check-last.result.1) c.args.self.now c.args.batches.now found kept (g.K.Keeps.stands c.args.keeper.now file) is c.check-last.ensures.checked
+    (stays_first kept (texts_of (take found.count c.args.batches.now)) (g.K.Keeps.stands c.args.keeper.now file) (g.met.K.Keeps.stays reliable c.args.keeper.now kept file has left)))
 
 pub returns-in-Err-NoMemory-clause-accepted : goal.returns-in-Err-NoMemory-clause-accepted
 returns-in-Err-NoMemory-clause-accepted g c =
@@ -64,13 +66,13 @@ returns-in-Err-NoMemory-clause-accepted g c =
     rw (c.out_of_memory.ensures, c.self.view_is) found
 
 pub returns-in-Err-NoMemory-clause-any_moment : goal.returns-in-Err-NoMemory-clause-any_moment
-returns-in-Err-NoMemory-clause-any_moment g c kept has file left =
+returns-in-Err-NoMemory-clause-any_moment g c reliable kept has =
     let a = c.self.inside in
     let opening = g.S.Sharing.opening in
     let found = c.check-last.result.0 in
     let is = before opening a.checked a.published a.last (drop a.writer.behind a.writer.log.items ++ a.queue.items) c.args.self.now c.self.invariant.1 c.self.invariant.2 c.self.view_is in
-    crash_leaves opening a.checked (last_of a.checked c.check-last.result.1) c.args.self.now c.args.batches.now found kept (g.K.Keeps.stands c.args.keeper.now file) is c.check-last.ensures.checked
-    (c.in-Err-NoMemory.ensures.any_moment kept has file left)
+    weaker g.K.Keeps.moment g.K.Keeps.left_since c.args.keeper.now c.keep_and_copy.new.keeper _ _ (c.in-Err-NoMemory.ensures.any_moment reliable kept has)
+    (λ file. crash_leaves opening a.checked (last_of a.checked c.check-last.result.1) c.args.self.now c.args.batches.now found kept (g.K.Keeps.stands c.args.keeper.now file) is c.check-last.ensures.checked)
 
 pub returns-in-Err-Failed-clause-failed : goal.returns-in-Err-Failed-clause-failed
 returns-in-Err-Failed-clause-failed g c =
@@ -87,13 +89,13 @@ returns-in-Err-Failed-clause-failed g c =
     )
 
 pub returns-in-Err-Failed-clause-any_moment : goal.returns-in-Err-Failed-clause-any_moment
-returns-in-Err-Failed-clause-any_moment g c kept has file left =
+returns-in-Err-Failed-clause-any_moment g c reliable kept has =
     let a = c.self.inside in
     let opening = g.S.Sharing.opening in
     let found = c.check-last.result.0 in
     let is = before opening a.checked a.published a.last (drop a.writer.behind a.writer.log.items ++ a.queue.items) c.args.self.now c.self.invariant.1 c.self.invariant.2 c.self.view_is in
-    crash_leaves opening a.checked (last_of a.checked c.check-last.result.1) c.args.self.now c.args.batches.now found kept (g.K.Keeps.stands c.args.keeper.now file) is c.check-last.ensures.checked
-    (c.in-Err-Failed.ensures.any_moment kept has file left)
+    weaker g.K.Keeps.moment g.K.Keeps.left_since c.args.keeper.now c.keep_and_copy.new.keeper _ _ (c.in-Err-Failed.ensures.any_moment reliable kept has)
+    (λ file. crash_leaves opening a.checked (last_of a.checked c.check-last.result.1) c.args.self.now c.args.batches.now found kept (g.K.Keeps.stands c.args.keeper.now file) is c.check-last.ensures.checked)
 
 pub returns-then-not-add_all-clause-failed : goal.returns-then-not-add_all-clause-failed
 returns-then-not-add_all-clause-failed g c =
@@ -110,13 +112,13 @@ returns-then-not-add_all-clause-failed g c =
     )
 
 pub returns-then-not-add_all-clause-any_moment : goal.returns-then-not-add_all-clause-any_moment
-returns-then-not-add_all-clause-any_moment g c kept has file left =
+returns-then-not-add_all-clause-any_moment g c reliable kept has =
     let a = c.self.inside in
     let opening = g.S.Sharing.opening in
     let found = c.check-last.result.0 in
     let is = before opening a.checked a.published a.last (drop a.writer.behind a.writer.log.items ++ a.queue.items) c.args.self.now c.self.invariant.1 c.self.invariant.2 c.self.view_is in
-    crash_leaves opening a.checked (last_of a.checked c.check-last.result.1) c.args.self.now c.args.batches.now found kept (g.K.Keeps.stands c.args.keeper.now file) is c.check-last.ensures.checked
-    (c.in-Ok.ensures.any_moment kept has file left)
+    weaker g.K.Keeps.moment g.K.Keeps.left_since c.args.keeper.now c.keep_and_copy.new.keeper _ _ (c.in-Ok.ensures.any_moment reliable kept has)
+    (λ file. crash_leaves opening a.checked (last_of a.checked c.check-last.result.1) c.args.self.now c.args.batches.now found kept (g.K.Keeps.stands c.args.keeper.now file) is c.check-last.ensures.checked)
 
 pub invariant_of-self-2 : goal.invariant_of-self-2
 invariant_of-self-2 g c =
@@ -158,10 +160,10 @@ returns-clause-kept g c kept has =
     subst (λ (l : List (List ℕ)). g.K.Keeps.keeps c.keep_and_copy.new.keeper (kept ++ l)) (texts_first c.check-last.result.0.count c.args.batches.now) (c.in-Ok.ensures.kept kept has)
 
 pub returns-clause-any_moment : goal.returns-clause-any_moment
-returns-clause-any_moment g c kept has file left =
+returns-clause-any_moment g c reliable kept has =
     let a = c.self.inside in
     let opening = g.S.Sharing.opening in
     let found = c.check-last.result.0 in
     let is = before opening a.checked a.published a.last (drop a.writer.behind a.writer.log.items ++ a.queue.items) c.args.self.now c.self.invariant.1 c.self.invariant.2 c.self.view_is in
-    crash_leaves opening a.checked (last_of a.checked c.check-last.result.1) c.args.self.now c.args.batches.now found kept (g.K.Keeps.stands c.args.keeper.now file) is c.check-last.ensures.checked
-    (c.in-Ok.ensures.any_moment kept has file left)
+    weaker g.K.Keeps.moment g.K.Keeps.left_since c.args.keeper.now c.keep_and_copy.new.keeper _ _ (c.in-Ok.ensures.any_moment reliable kept has)
+    (λ file. crash_leaves opening a.checked (last_of a.checked c.check-last.result.1) c.args.self.now c.args.batches.now found kept (g.K.Keeps.stands c.args.keeper.now file) is c.check-last.ensures.checked)

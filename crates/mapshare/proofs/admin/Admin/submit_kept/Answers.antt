@@ -1,4 +1,5 @@
 use Rattle.std.proofs.Common.{rules}
+use Rattle.keepers.proofs.Moments.{weaker}
 use Rattle.mapshare.proofs.Accepting.{crash_leaves_one, refused_one}
 use Rattle.mapshare.proofs.admin.Admin.submit_kept.Goals as goal
 
@@ -13,21 +14,26 @@ returns-in-Some-Fault-clause-kept g c kept has =
     c.in-Ok.ensures.unkept none.0
 
 pub returns-in-Err-clause-any_moment : goal.returns-in-Err-clause-any_moment
-returns-in-Err-clause-any_moment g c kept has file left =
-    crash_leaves_one g.S.Sharing.opening c.args.self c.args.batch c.from_ref.result.now kept (g.K.Keeps.stands c.args.keeper.now file) c.from_ref.ensures.value (c.accept_kept.ensures.any_moment kept has file left)
+returns-in-Err-clause-any_moment g c reliable kept has =
+    weaker g.K.Keeps.moment g.K.Keeps.left_since c.args.keeper.now c.accept_kept.new.keeper _ _ (c.accept_kept.ensures.any_moment reliable kept has)
+    (λ file. crash_leaves_one g.S.Sharing.opening c.args.self c.args.batch c.from_ref.result.now kept (g.K.Keeps.stands c.args.keeper.now file) c.from_ref.ensures.value)
 
 pub returns-in-Some-Fault-clause-any_moment : goal.returns-in-Some-Fault-clause-any_moment
-returns-in-Some-Fault-clause-any_moment g c kept has file left =
-    crash_leaves_one g.S.Sharing.opening c.args.self c.args.batch c.from_ref.result.now kept (g.K.Keeps.stands c.args.keeper.now file) c.from_ref.ensures.value (c.accept_kept.ensures.any_moment kept has file left)
+returns-in-Some-Fault-clause-any_moment g c reliable kept has =
+    weaker g.K.Keeps.moment g.K.Keeps.left_since c.args.keeper.now c.accept_kept.new.keeper _ _ (c.accept_kept.ensures.any_moment reliable kept has)
+    (λ file. crash_leaves_one g.S.Sharing.opening c.args.self c.args.batch c.from_ref.result.now kept (g.K.Keeps.stands c.args.keeper.now file) c.from_ref.ensures.value)
 
 pub returns-in-Some-NoMemory-clause-any_moment : goal.returns-in-Some-NoMemory-clause-any_moment
-returns-in-Some-NoMemory-clause-any_moment g c kept has file left =
-    crash_leaves_one g.S.Sharing.opening c.args.self c.args.batch c.from_ref.result.now kept (g.K.Keeps.stands c.args.keeper.now file) c.from_ref.ensures.value (c.accept_kept.ensures.any_moment kept has file left)
+returns-in-Some-NoMemory-clause-any_moment g c reliable kept has =
+    weaker g.K.Keeps.moment g.K.Keeps.left_since c.args.keeper.now c.accept_kept.new.keeper _ _ (c.accept_kept.ensures.any_moment reliable kept has)
+    (λ file. crash_leaves_one g.S.Sharing.opening c.args.self c.args.batch c.from_ref.result.now kept (g.K.Keeps.stands c.args.keeper.now file) c.from_ref.ensures.value)
 
 pub returns-then-done-clause-any_moment : goal.returns-then-done-clause-any_moment
-returns-then-done-clause-any_moment g c kept has file left =
-    crash_leaves_one g.S.Sharing.opening c.args.self c.args.batch c.from_ref.result.now kept (g.K.Keeps.stands c.args.keeper.now file) c.from_ref.ensures.value (c.accept_kept.ensures.any_moment kept has file left)
+returns-then-done-clause-any_moment g c reliable kept has =
+    weaker g.K.Keeps.moment g.K.Keeps.left_since c.args.keeper.now c.accept_kept.new.keeper _ _ (c.accept_kept.ensures.any_moment reliable kept has)
+    (λ file. crash_leaves_one g.S.Sharing.opening c.args.self c.args.batch c.from_ref.result.now kept (g.K.Keeps.stands c.args.keeper.now file) c.from_ref.ensures.value)
 
 pub returns-clause-any_moment : goal.returns-clause-any_moment
-returns-clause-any_moment g c kept has file left =
-    crash_leaves_one g.S.Sharing.opening c.args.self c.args.batch c.from_ref.result.now kept (g.K.Keeps.stands c.args.keeper.now file) c.from_ref.ensures.value (c.accept_kept.ensures.any_moment kept has file left)
+returns-clause-any_moment g c reliable kept has =
+    weaker g.K.Keeps.moment g.K.Keeps.left_since c.args.keeper.now c.accept_kept.new.keeper _ _ (c.accept_kept.ensures.any_moment reliable kept has)
+    (λ file. crash_leaves_one g.S.Sharing.opening c.args.self c.args.batch c.from_ref.result.now kept (g.K.Keeps.stands c.args.keeper.now file) c.from_ref.ensures.value)

@@ -1,5 +1,5 @@
 use denote.Param.Send.{param_send}
-use Rattle.service.proofs.starting.fn.start_clients.spawn.Goals as goal
+use Rattle.service.proofs.starting.fn.start_clients.spawn_with.Goals as goal
 
 -- what the closure requires of its types comes after their lifetimes: that S, R, C, T, P, Q, W and the waker of Q may be sent
 pub serve_all-requires-send-S : goal.serve_all-requires-send-S

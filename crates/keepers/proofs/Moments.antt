@@ -1,25 +1,13 @@
--- The course of a run of calls of a log.
+-- The course of a run of calls that write.
 use Rattle.std.proofs.Common.{inl, inr, ⊎_elim, ℕ, List, arith}
-use Rattle.journalfile.specs.Log.{Elapses, LeavesOnly}
+use Rattle.std.specs.Prelude.{Some}
+use Rattle.keepers.specs.Crashes.{LeavesOnly}
+use Rattle.keepers.specs.Keeping.{left_since_of, moment_of}
 
 module _ {L : Type 0} (moment : L → ℕ) (left_since : L → ℕ → List ℕ → Type 0) where
   -- before the first call
   pub started : (old : L) (P : List ℕ → Type 0) → ((c : List ℕ) → left_since old (moment old) c → P c) → LeavesOnly moment left_since old old P
   started old P here = record { later = omega arith; each = here; before = λ t c le left. inl left }
-
-  -- one more call, after which a crash leaves bytes that have P
-  pub goes_on : (old mid new : L) (P outcomes : List ℕ → Type 0) → LeavesOnly moment left_since old mid P → Elapses (moment mid) (moment new) (left_since mid) (left_since new) outcomes
-      → ((c : List ℕ) → outcomes c → P c) → LeavesOnly moment left_since old new P
-  goes_on old mid new P outcomes so_far time here = record {
-    later = omega (arith, so_far.later, time.later);
-    each = λ c left. ⊎_elim (so_far.each c) (here c) (time.nothing_else (moment old) c so_far.later left);
-    before = λ t c le left. ⊎_elim (so_far.before t c le) (λ now. inr (here c now)) (time.nothing_else t c (omega (arith, le, so_far.later)) left);
-  }
-
-  -- the first call of a run
-  pub begins : (old new : L) (P outcomes : List ℕ → Type 0) → ((c : List ℕ) → left_since old (moment old) c → P c) → Elapses (moment old) (moment new) (left_since old) (left_since new) outcomes
-      → ((c : List ℕ) → outcomes c → P c) → LeavesOnly moment left_since old new P
-  begins old new P outcomes first time here = goes_on old old new P outcomes (started old P first) time here
 
   -- one run after another
   pub follows : (old mid new : L) (P Q R : List ℕ → Type 0) → LeavesOnly moment left_since old mid P → LeavesOnly moment left_since mid new Q
@@ -36,3 +24,22 @@ module _ {L : Type 0} (moment : L → ℕ) (left_since : L → ℕ → List ℕ 
     each = λ c left. p c (run.each c left);
     before = λ t c le left. ⊎_elim (λ l. inl l) (λ h. inr (p c h)) (run.before t c le left);
   }
+
+-- what is written is a part of what writes it
+pub of_part : {K L : Type 0} (moment : L → ℕ) (left_since : L → ℕ → List ℕ → Type 0) (part : K → L) (old new : K) (P Q : List ℕ → Type 0)
+    → LeavesOnly moment left_since (part old) (part new) P → ((c : List ℕ) → P c → Q c)
+    → LeavesOnly (λ (k : K). moment (part k)) (λ (k : K). left_since (part k)) old new Q
+of_part moment left_since part old new P Q run p = record {
+  later = run.later;
+  each = λ c left. p c (run.each c left);
+  before = λ t c le left. ⊎_elim (λ l. inl l) (λ h. inr (p c h)) (run.before t c le left);
+}
+
+-- a keeper that is there
+pub of_some : {K : Type 0} (moment : K → ℕ) (left_since : K → ℕ → List ℕ → Type 0) (old new : K) (P Q : List ℕ → Type 0) → LeavesOnly moment left_since old new P → ((c : List ℕ) → P c → Q c)
+    → LeavesOnly (moment_of moment) (left_since_of left_since) (Some old) (Some new) Q
+of_some moment left_since old new P Q run p = record {
+  later = run.later;
+  each = λ c left. p c (run.each c left);
+  before = λ t c le left. ⊎_elim (λ l. inl l) (λ h. inr (p c h)) (run.before t c le left);
+}

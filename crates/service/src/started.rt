@@ -4,7 +4,7 @@ use std::sync::{Condvar, Mutex, Wait};
 
 /// Tells one thread whether the workers were started by another.
 #[derive(Drop)]
-pub struct Starting {
+pub(crate) struct Starting {
     // Whether they were, once that is known.
     has_started: Mutex<Option<bool>>,
     told: Condvar,

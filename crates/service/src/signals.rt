@@ -1,30 +1,30 @@
 //! The signals between the threads of a service: that no more clients are served, and that the input ended.
 
-ghost use Rattle.std.specs.Prelude.{◌≡◌, IfErr, true};
+ghost use Rattle.std.specs.Prelude.{◌≡◌, IfErr, IfOk, true};
 ghost use Rattle.network.specs.Announcing.{is_service_failure};
 
-use crate::ports::{Runtime, Until};
-use crate::starting::Starting;
+use crate::flags::{Flag, Left, Over, Stopped, Unread};
+use crate::started::Starting;
 use console::Failure;
 use eventloop::Wakes;
+use network::{Runtime, Until};
 use std::alloc::{AllocError, Global};
 use std::io::{ErrorKind, Read};
 use std::sync::Arc;
-use std::sync::atomic::{AtomicBool, Ordering};
 use std::thread;
 
-/// The signal to the thread that accepts the connections of a port that it has to stop.
+/// The signal to the thread that accepts the connections of a port that it has to stop: a flag of the purpose K is set.
 #[derive(Drop)]
-pub struct StopSignal<W: Wakes> {
-    flag: Arc<AtomicBool, Global>,
+pub(crate) struct StopSignal<K, W: Wakes> {
+    flag: Arc<Flag<K>, Global>,
     // The waker of its wait for a connection, if the port knows its address.
     waker: Option<W>,
 }
 
-impl<W: Wakes> StopSignal<W> {
+impl<K, W: Wakes> StopSignal<K, W> {
     /// Gives the signal, and ends the wait for a connection.
     pub fn give(&self) {
-        self.flag.store(true, Ordering::SeqCst);
+        self.flag.set();
         if let Some(waker) = &self.waker {
             waker.wake();
         }
@@ -33,13 +33,13 @@ impl<W: Wakes> StopSignal<W> {
 
 /// The signal that the thread of clients gets, and the one that it gives.
 #[derive(Drop)]
-pub struct ClientSignals<W: Wakes> {
+pub(crate) struct ClientSignals<W: Wakes> {
     /// It has to stop.
-    pub is_stopped: Arc<AtomicBool, Global>,
+    pub is_stopped: Arc<Flag<Stopped>, Global>,
     /// No more clients are served.
-    pub is_over: StopSignal<W>,
+    pub is_over: StopSignal<Over, W>,
     /// Their port isn't served any more.
-    pub is_left: Arc<AtomicBool, Global>,
+    pub is_left: Arc<Flag<Left>, Global>,
     /// Whether their workers were started.
     pub starting: Arc<Starting, Global>,
 }
@@ -60,15 +60,15 @@ fn read_out<I: Read>(input: &mut I) -> bool {
 // The end of an input: the signal that it gives, and the flag that it sets where the input could not be read to its end.
 #[derive(Drop)]
 struct InputEnd<W: Wakes> {
-    stop: StopSignal<W>,
-    has_failed: Arc<AtomicBool, Global>,
+    stop: StopSignal<Stopped, W>,
+    has_failed: Arc<Flag<Unread>, Global>,
 }
 
 // Waits for the end of an input, and then has the thread of clients stop. An input that fails has ended, and the
 // failure is noted.
 fn watch<W: Wakes, I: Read + Drop>(mut input: I, end: &InputEnd<W>) {
     if !read_out(&mut input) {
-        end.has_failed.store(true, Ordering::SeqCst);
+        end.has_failed.set();
     }
     end.stop.give();
 }
@@ -76,8 +76,8 @@ fn watch<W: Wakes, I: Read + Drop>(mut input: I, end: &InputEnd<W>) {
 // The flags that the end of an input sets: that the thread of clients has to stop, and that the input could not be read to its end.
 #[derive(Drop)]
 struct InputFlags {
-    is_stopped: Arc<AtomicBool, Global>,
-    has_failed: Arc<AtomicBool, Global>,
+    is_stopped: Arc<Flag<Stopped>, Global>,
+    has_failed: Arc<Flag<Unread>, Global>,
 }
 
 // Starts the thread that waits for the end of an input, if there is one.
@@ -118,24 +118,24 @@ where
 
 /// The signals between the threads of a service.
 #[derive(Drop)]
-pub struct Signals<W: Wakes> {
+pub(crate) struct Signals<W: Wakes> {
     /// The signals of the thread of clients.
     pub clients: ClientSignals<W>,
     /// No more clients are served.
-    pub is_over: Arc<AtomicBool, Global>,
+    pub is_over: Arc<Flag<Over>, Global>,
     /// The port of clients isn't served any more.
-    pub is_left: Arc<AtomicBool, Global>,
+    pub is_left: Arc<Flag<Left>, Global>,
     /// Whether the workers of clients were started.
     pub starting: Arc<Starting, Global>,
     /// Has the thread of clients stop.
-    pub stop: StopSignal<W>,
+    pub stop: StopSignal<Stopped, W>,
     /// The input with whose end the service ends could not be read.
-    pub has_failed: Arc<AtomicBool, Global>,
+    pub has_failed: Arc<Flag<Unread>, Global>,
 }
 
 /// The wakers of a service, and the input whose end ends it.
 #[derive(Drop)]
-pub struct Wakers<W, I> {
+pub(crate) struct Wakers<W, I> {
     /// The waker of a wait for an administrator.
     pub administration: Option<W>,
     /// The waker of a wait for a client.
@@ -166,25 +166,25 @@ impl<T> Ends<T> {
 // What the threads of a service share.
 #[derive(Drop)]
 struct SharedFlags {
-    is_over: Ends<AtomicBool>,
-    is_left: Ends<AtomicBool>,
+    is_over: Ends<Flag<Over>>,
+    is_left: Ends<Flag<Left>>,
     starting: Ends<Starting>,
-    is_stopped: Ends<AtomicBool>,
-    has_failed: Arc<AtomicBool, Global>,
+    is_stopped: Ends<Flag<Stopped>>,
+    has_failed: Arc<Flag<Unread>, Global>,
 }
 
 impl SharedFlags {
     // Nothing is told yet. The flags for the end of the input stand beside the others.
     fn new(alloc: Global) -> Result<(Self, InputFlags), AllocError> {
-        let is_stopped = Ends::of(alloc, AtomicBool::new(false))?;
-        let has_failed = Ends::of(alloc, AtomicBool::new(false))?;
+        let is_stopped = Ends::of(alloc, Flag::new())?;
+        let has_failed = Ends::of(alloc, Flag::new())?;
         let at_end = InputFlags {
             is_stopped: Arc::try_clone(&is_stopped.ours)?,
             has_failed: has_failed.theirs,
         };
         let flags = SharedFlags {
-            is_over: Ends::of(alloc, AtomicBool::new(false))?,
-            is_left: Ends::of(alloc, AtomicBool::new(false))?,
+            is_over: Ends::of(alloc, Flag::new())?,
+            is_left: Ends::of(alloc, Flag::new())?,
             starting: Ends::of(alloc, Starting::new())?,
             is_stopped,
             has_failed: has_failed.ours,
@@ -193,7 +193,9 @@ impl SharedFlags {
     }
 
     // The signals by these flags, and the wakers of the two ports.
-    fn into_signals<W: Wakes>(self, administration: Option<W>, clients: Option<W>) -> Signals<W> {
+    fn into_signals<W: Wakes>(self, administration: Option<W>, clients: Option<W>) -> Signals<W>
+        ensures { (result.clients.is_over.waker ≡ administration) × (result.stop.waker ≡ clients) }
+    {
         let SharedFlags {
             is_over,
             is_left,
@@ -224,12 +226,13 @@ impl SharedFlags {
 }
 
 /// The signals between the threads of a service.
-pub fn signals_of<R, W, I>(rt: &R, wakers: Wakers<W, I>) -> Result<Signals<W>, Failure>
+pub(crate) fn signals_of<R, W, I>(rt: &R, wakers: Wakers<W, I>) -> Result<Signals<W>, Failure>
 where
     R: Runtime,
     W: Wakes + Send + Drop + 'static,
     I: Read + Send + Drop + 'static,
     ensures failed { IfErr result (λ failure. is_service_failure failure ≡ true) }
+    ensures wakers { IfOk result (λ signals. (signals.clients.is_over.waker ≡ wakers.administration) × (signals.stop.waker ≡ wakers.clients)) }
 {
     let Wakers {
         administration,
