@@ -16,7 +16,7 @@ import sys
 
 sys.path.insert(0, str(pathlib.Path(__file__).resolve().parents[1] / "lib"))
 
-from journals import BIG, DUE, Server, as_nobody, big, expect, try_all
+from journals import BIG, DUE, Server, as_nobody, big, expect, refused, try_all
 from preloaded import built
 
 # The names of a new file beside a journal.
@@ -129,6 +129,21 @@ def a_start_compacts_a_journal_that_is_due(program, folder):
         expect("the answer", str(server.answer(b"OFF a\n")), f"PUBLISHED {DUE + 1}")
 
 
+def a_compacted_journal_is_locked_and_keeps_its_rights(program, folder):
+    """That the new file has the rights of the old one, and that no other server gets it."""
+    with Server(program, folder):
+        pass
+    journal = folder / "journal"
+    journal.chmod(0o640)
+    with Server(program, folder, options=("--checkpoint", "1")) as server:
+        for number in range(1, DUE + 1):
+            expect("the answer", str(server.answer(big(number))), f"PUBLISHED {number}")
+        expect("whether one batch is left of it", BIG < journal.stat().st_size < 2 * BIG, True)
+        expect("its rights", oct(journal.stat().st_mode & 0o777), "0o640")
+        refused(program, folder, "another program has it")
+        expect("the next answer", str(server.answer(b"OFF a\n")), f"PUBLISHED {DUE + 1}")
+
+
 def a_start_makes_room_on_a_full_disk(program, folder):
     disk = folder / "disk"
     disk.mkdir()
@@ -155,6 +170,7 @@ ROWS = [
     journals_that_are_not_compacted_are_said,
     a_rename_that_may_be_done_fails_a_batch,
     a_start_compacts_a_journal_that_is_due,
+    a_compacted_journal_is_locked_and_keeps_its_rights,
     a_start_makes_room_on_a_full_disk,
 ]
 
