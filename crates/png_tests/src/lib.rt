@@ -5,4 +5,6 @@
 #[cfg(test)]
 mod lengths;
 #[cfg(test)]
+mod scattered;
+#[cfg(test)]
 mod smoothed;
