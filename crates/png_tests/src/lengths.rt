@@ -9,6 +9,24 @@ pub(crate) fn side(pixels: i64) -> PictureSide {
     PictureSide::new(pixels.clamp(1, 2_048) as u16).unwrap()
 }
 
+/// How long the file of a picture of one row is, and 0 where the row isn't so wide.
+pub(crate) fn row_length(
+    alloc: Global,
+    pixels: Items<PixelColour>,
+    width: PictureSide,
+) -> Result<usize, AllocError> {
+    let height = side(1);
+    if pixels.as_slice().len() != usize::from(width.pixels()) * usize::from(height.pixels()) {
+        return Ok(0);
+    }
+    let picture = Picture::new(PictureFields {
+        width,
+        height,
+        pixels,
+    });
+    Ok(write_png(alloc, &picture)?.as_slice().len())
+}
+
 // The bytes of files of two equal rows of so many colours and so many pixels, and of those whose first colour is nothing. Behind
 // the others stands the last colour. 57 are signature, IHDR, IEND and the frame of IDAT, 12 and three a colour a palette, 13
 // tRNS, and 6 and these bits a stream: 3 at its begin, 7 at its end, 8 or 9 for each byte of the first row and its filter

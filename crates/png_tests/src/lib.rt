@@ -5,6 +5,8 @@
 #[cfg(test)]
 mod lengths;
 #[cfg(test)]
+mod longer_matches;
+#[cfg(test)]
 mod scattered;
 #[cfg(test)]
 mod smoothed;

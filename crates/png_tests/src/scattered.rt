@@ -1,6 +1,5 @@
-use crate::lengths::side;
-use mapdefs::{Items, Picture, PictureFields, PixelColour, Rgb};
-use png::write_png;
+use crate::lengths::{row_length, side};
+use mapdefs::{Items, PixelColour, Rgb};
 use std::alloc::{AllocError, Global};
 use test_tables::{TableFault, check_rows};
 
@@ -20,22 +19,6 @@ fn scattered(alloc: Global) -> Result<Items<PixelColour>, AllocError> {
     Ok(pixels)
 }
 
-// How long the file of scattered colours is, and 0 where there is no such picture.
-fn length_of(alloc: Global) -> Result<usize, AllocError> {
-    let pixels = scattered(alloc)?;
-    let width = side(2_048);
-    let height = side(1);
-    if pixels.as_slice().len() != usize::from(width.pixels()) * usize::from(height.pixels()) {
-        return Ok(0);
-    }
-    let picture = Picture::new(PictureFields {
-        width,
-        height,
-        pixels,
-    });
-    Ok(write_png(alloc, &picture)?.as_slice().len())
-}
-
 // The file has 57 bytes, 12 and 192 of the palette, and a stream of 1,576: 6 and these bits, 3 at its begin, a header of 218,
 // 12,326 of the bytes and 7 of the end. Of 65 symbols 63 have 6 bits, the last colour and the end 7, so that the codes are
 // complete: 63 / 64 and 2 / 128. A colour stands 32 times, and the first one 33 times with the filter type. Of the header 71 bits are
@@ -44,7 +27,7 @@ fn length_of(alloc: Global) -> Result<usize, AllocError> {
 const LENGTHS: &str = "1837=scattered";
 
 fn lengths_of(alloc: Global, _name: &str) -> Result<String, AllocError> {
-    let length = length_of(alloc)?;
+    let length = row_length(alloc, scattered(alloc)?, side(2_048))?;
     format!(in alloc; "{length}")
 }
 
