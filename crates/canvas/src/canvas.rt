@@ -2,9 +2,11 @@ ghost use Rattle.std.specs.Prelude.{◌≡◌, [], ◌*◌, ◌+◌, ◌≤◌, 
 ghost use Rattle.scanfill.specs.Runs.{has_column, is_in_spans};
 ghost use Rattle.viewport.specs.View.{window};
 ghost use Rattle.viewport.specs.declared.view.TheConstants.{MAX_MARGIN};
+ghost use Rattle.mapdefs.specs.declared.limits.TheConstants.{MAX_FINE_WIDTH};
 ghost use Rattle.canvas.specs.Painted.{HasRowsFilled, IsFilled};
 
 use crate::colouring::{ColouredSpans, Colouring, PixelBox, fill_box, fill_rows};
+use crate::kept_chords::KeptChords;
 use crate::latitudes::RowLatitudes;
 use crate::margin_window::MarginWindow;
 use geom::{PictureSide, WorldBox};
@@ -14,9 +16,11 @@ use scene::Scene;
 use std::alloc::{AllocError, Global};
 use std::marker::Model;
 use std::mem;
+use strokes::Chords;
 use viewport::Projection;
 
-/// A picture while it is painted, with a table of the latitudes of its rows, and the window that was asked for last.
+/// A picture while it is painted, with a table of the latitudes of its rows, the window that was asked for last, and the
+/// chords of the round lines that were painted.
 #[derive(Drop)]
 pub struct Canvas {
     width: PictureSide,
@@ -25,6 +29,7 @@ pub struct Canvas {
     latitudes: RowLatitudes,
     flips: Flips,
     window: MarginWindow,
+    chords: KeptChords,
 }
 
 impl Model for Canvas {
@@ -60,6 +65,7 @@ impl Canvas {
             latitudes: RowLatitudes::new(alloc, projection),
             flips: Flips::new(alloc, width, height),
             window: MarginWindow::new(projection, 1),
+            chords: KeptChords::new(alloc),
         })
     }
 
@@ -113,6 +119,24 @@ impl Canvas {
         ensures { self.new ≡ self.old }
     {
         self.flips = flips;
+    }
+
+    /// The chords of a width, 1 to `MAX_FINE_WIDTH`. They are those that were taken back of that width, or new ones, which
+    /// take memory.
+    pub fn lend_chords(&mut self, width: u8) -> Result<Chords, AllocError>
+        requires some { 1 ≤ width }
+        requires most { width ≤ MAX_FINE_WIDTH }
+        ensures same { self.new ≡ self.old }
+        ensures chords { IfOk result (λ chords. chords ≡ width) }
+    {
+        self.chords.take(width)
+    }
+
+    /// Takes chords back, for the next line of their width.
+    pub fn return_chords(&mut self, chords: Chords)
+        ensures { self.new ≡ self.old }
+    {
+        self.chords.keep(chords);
     }
 
     /// How many columns of pixels the canvas has.

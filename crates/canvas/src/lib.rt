@@ -6,14 +6,15 @@
 //! `RowLatitudes::bands` has two latitudes for each row, between which all are of that row (`AreBands`). `row_at` gives
 //! the row of a latitude (`row_of`).
 //!
-//! Terms: a *shape* is painted at once: the rings of a polygon, a line or a square in one colour, or a pixmap; the outline
-//! of a text, or its glyphs. A *canvas* is the picture while it is painted. A *colouring* gives pixels of a row their
+//! Terms: a *shape* is painted at once: the rings of a polygon, a line, a round line or a square in one colour, or a pixmap;
+//! the outline of a text, or its glyphs. A *canvas* is the picture while it is painted. A *colouring* gives pixels of a row their
 //! colours. A *band* is two latitudes between which all are of one row of the picture.
 #![tactic(auto)]
 
 mod boxes;
 mod canvas;
 mod colouring;
+mod kept_chords;
 mod latitudes;
 mod margin_window;
 mod rows;

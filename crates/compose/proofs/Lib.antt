@@ -13,8 +13,5 @@ pub mod MovedShapes
 pub mod NearAnchors
 pub mod NearThings
 pub mod Reaching
-pub mod Smoothing
 pub mod Sparing
-pub mod Tiled
-pub mod Tiling
 pub mod Walking

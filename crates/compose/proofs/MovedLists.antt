@@ -5,7 +5,7 @@ use Rattle.std.proofs.lemmas.List.{map-append}
 use Rattle.std.specs.List.{flat_map}
 use Rattle.std.specs.Option.{option_map_or}
 use Rattle.std.specs.Str.{chars}
-use Rattle.std.specs.Prelude.{pos, slice_get, ℤ, ◌-ℤ◌, ◌*ℤ◌}
+use Rattle.std.specs.Prelude.{nat_lt, pos, slice_get, ℤ, ◌-ℤ◌, ◌*ℤ◌}
 use Rattle.geom.specs.Device.{DevicePoint, PixelValue, pixel_of}
 use Rattle.scaledenom.specs.Scale.{PictureScale}
 use Rattle.geom.specs.World.{Place}
@@ -23,13 +23,16 @@ use Rattle.mapdefs.specs.declared.map.MapFields.{MapFields}
 use Rattle.mapdefs.specs.declared.style.StyleFields.{StyleFields}
 use Rattle.mapdefs.specs.declared.symbol.Symbol.{Symbol}
 use Rattle.strokes.specs.Line.{line_of}
+use Rattle.strokes.specs.Round.{round_line}
 use Rattle.moves.specs.Moves.{pixel_from, point_from, points_from}
 use Rattle.moves.proofs.Edges.{pixel-of}
 use Rattle.moves.proofs.Lines.{lines-are-moved}
 use Rattle.moves.proofs.Lists.{flat_map-each, flat_map-moved}
+use Rattle.moves.proofs.Rounds.{round_lines-are-moved}
 use Rattle.viewport.specs.View.{ViewValue, block_of, device_point, height_of, points_of, sixteenths, whole_of}
 use Rattle.viewport.specs.declared.fine.Stretch.{Stretch}
-use Rattle.canvas.specs.Shapes.{PaintedShape, Written, fills, marks, stamps, strokes}
+use Rattle.canvas.specs.Shapes.{PaintedShape, Written, fills, line_by, marks, stamps, strokes}
+use Rattle.canvas.specs.Shapes as shape
 use Rattle.inking.specs.Styles.{line_shapes, point_shapes}
 use Rattle.compose.specs.Blocks.{BlocksAreParts, BlocksPaintParts, BlocksPaintTheSame, IsBlockOf, PaintedBlocksAreBlocks, corner_of, label_from, shape_from, whole_colour}
 use Rattle.compose.specs.Labels.{candidate_list, candidate_shapes, ink_list, inks, label_shapes, outlines}
@@ -44,10 +47,20 @@ fills-moved : (c : PixelValue) (rings : List (List DevicePoint)) (colour : Optio
 fills-moved c rings None = refl
 fills-moved c rings (Some colour) = refl
 
-strokes-moved : (c : PixelValue) (parts : List (List DevicePoint)) (closed : Bool) (width : ℕ) (colour : Option Rgb) →
-    strokes (line_of (points_from c parts) closed width) colour ≡ map (shape_from c) (strokes (line_of parts closed width) colour)
-strokes-moved c parts closed width None = refl
-strokes-moved c parts closed width (Some colour) = ap (λ l. strokes l (Some colour)) (lines-are-moved c parts closed width)
+line_by-moved : (c : PixelValue) (factor : ℕ) (parts : List (List DevicePoint)) (closed : Bool) (width : ℕ) (colour : Rgb) →
+    line_by factor (points_from c parts) closed width colour ≡ shape_from c (line_by factor parts closed width colour)
+line_by-moved c factor parts closed width colour = go (nat_lt 1 factor)
+  where
+    go : (t : Bool) →
+        (if t then shape.RoundStroke (round_line (points_from c parts) closed (factor * width)) colour else shape.Stroke (line_of (points_from c parts) closed (factor * width)) colour)
+        ≡ shape_from c (if t then shape.RoundStroke (round_line parts closed (factor * width)) colour else shape.Stroke (line_of parts closed (factor * width)) colour)
+    go true = ap (λ segments. shape.RoundStroke segments colour) (round_lines-are-moved c parts closed (factor * width))
+    go false = ap (λ l. shape.Stroke l colour) (lines-are-moved c parts closed (factor * width))
+
+strokes-moved : (c : PixelValue) (factor : ℕ) (parts : List (List DevicePoint)) (closed : Bool) (width : ℕ) (colour : Option Rgb) →
+    strokes (line_by factor (points_from c parts) closed width) colour ≡ map (shape_from c) (strokes (line_by factor parts closed width) colour)
+strokes-moved c factor parts closed width None = refl
+strokes-moved c factor parts closed width (Some colour) = ap (λ (s : PaintedShape). s ∷ []) (line_by-moved c factor parts closed width colour)
 
 -- a list that is there for an option, and one that is there for a test
 option-moved : {X A B : Type 0} (h : A → B) (f : X → List B) (g : X → List A) → ((x : X) → f x ≡ map h (g x)) → (o : Option X) →
@@ -119,16 +132,15 @@ module _ (view : ViewValue) (across down : Stretch) where
         polygon_shapes view.factor (parts_of block feature) style ≡ map (shape_from corner) (polygon_shapes view.factor (parts_of whole feature) style)
     polygon-moved style =
         let rings = parts_of whole feature in
-        let width = view.factor * style.width in
         ap (λ points. polygon_shapes view.factor points style) (points-moved feature.parts)
-        ∙ append-moved (shape_from corner) (fills (points_from corner rings) style.colour) (strokes (line_of (points_from corner rings) true width) style.outline)
-        (fills rings style.colour) (strokes (line_of rings true width) style.outline)
-        (fills-moved corner rings style.colour) (strokes-moved corner rings true width style.outline)
+        ∙ append-moved (shape_from corner) (fills (points_from corner rings) style.colour) (strokes (line_by view.factor (points_from corner rings) true style.width) style.outline)
+        (fills rings style.colour) (strokes (line_by view.factor rings true style.width) style.outline)
+        (fills-moved corner rings style.colour) (strokes-moved corner view.factor rings true style.width style.outline)
 
     line-moved : (style : StyleFields) → line_shapes view.factor (parts_of block feature) style ≡ map (shape_from corner) (line_shapes view.factor (parts_of whole feature) style)
     line-moved style =
         ap (λ parts. line_shapes view.factor parts style) (points-moved feature.parts)
-        ∙ strokes-moved corner (parts_of whole feature) false (view.factor * style.width) style.colour
+        ∙ strokes-moved corner view.factor (parts_of whole feature) false style.width style.colour
 
     place-moved : (style : StyleFields) (p : Place) → point_shapes block symbols style p ≡ map (shape_from corner) (point_shapes whole symbols style p)
     place-moved style p =

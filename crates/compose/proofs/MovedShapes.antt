@@ -5,6 +5,7 @@ use Rattle.geom.specs.Device.{PixelValue}
 use Rattle.mapdefs.specs.declared.colour.Rgb.{Rgb}
 use Rattle.moves.proofs.Lines.{lines-move, squares-move}
 use Rattle.moves.proofs.Rings.{rings-move}
+use Rattle.moves.proofs.Rounds.{round_lines-move}
 use Rattle.moves.proofs.Stamps.{stamp-colours-move, stamps-move}
 use Rattle.moves.proofs.Texts.{ink-moves, outlines-move}
 use Rattle.canvas.specs.Painted.{colour_at}
@@ -20,6 +21,7 @@ module _ (left top : ℕ) where
   covers-moved : (s : PaintedShape) (i j : ℕ) → covers (shape_from corner s) i j ≡ covers s (left + i) (top + j)
   covers-moved (shape.Fill rings colour) i j = rings-move corner rings (pos i) (pos j)
   covers-moved (shape.Stroke line colour) i j = lines-move corner line (pos i) (pos j)
+  covers-moved (shape.RoundStroke segments colour) i j = round_lines-move corner segments (pos i) (pos j)
   covers-moved (shape.Mark square colour) i j = squares-move corner square (pos i) (pos j)
   covers-moved (shape.Stamped pixmap) i j = stamps-move corner pixmap (pos i) (pos j)
   covers-moved (shape.Outlined w colour) i j = outlines-move corner w.font w.characters w.at (pos i) (pos j)
@@ -28,6 +30,7 @@ module _ (left top : ℕ) where
   colours-moved : (s : PaintedShape) (i j : ℕ) → colour_in (shape_from corner s) i j ≡ colour_in s (left + i) (top + j)
   colours-moved (shape.Fill rings colour) i j = refl
   colours-moved (shape.Stroke line colour) i j = refl
+  colours-moved (shape.RoundStroke segments colour) i j = refl
   colours-moved (shape.Mark square colour) i j = refl
   colours-moved (shape.Stamped pixmap) i j = stamp-colours-move corner pixmap (pos i) (pos j)
   colours-moved (shape.Outlined w colour) i j = refl

@@ -1,10 +1,11 @@
 -- Points all round a pixel that is painted of a feature.
-use Rattle.std.proofs.Common.{◌≡◌, ◌∙◌, ℕ, ◌*◌, ◌<◌, ◌≤◌, max, Bool, true, false, ◌||◌, List, [], ◌∷◌, Option, None, Some, refl, sym, arith, ⊎_elim}
+use Rattle.std.proofs.Common.{◌≡◌, ◌∙◌, ℕ, ◌*◌, ◌<◌, ◌≤◌, max, Bool, true, false, ◌||◌, List, [], ◌∷◌, map, Option, None, Some, refl, sym, arith, ⊎_elim}
 use Rattle.std.proofs.Math.Nat.{le-max_left, le-max_right}
 use Rattle.std.proofs.lemmas.List.Folds.{list_any-append}
 use Rattle.std.specs.List.{Contains, flat_map, list_any, slice_get}
+use Rattle.std.specs.Prelude.{if◌then◌else◌, nat_lt}
 use Rattle.std.specs.Option.{option_map_or}
-use Rattle.canvas.specs.Shapes.{PaintedShape, covers, fills, marks, stamps, strokes}
+use Rattle.canvas.specs.Shapes.{PaintedShape, RoundStroke, Stroke, covers, fills, line_by, marks, stamps, strokes}
 use Rattle.inking.specs.Styles.{point_shapes}
 use Rattle.compose.specs.Paint.{class_shapes, parts_of, polygon_shapes, style_shapes}
 use lib.IntN.{pos}
@@ -22,8 +23,8 @@ use Rattle.mapdefs.specs.declared.layer.LayerFields.{LayerFields}
 use Rattle.mapdefs.specs.declared.style.StyleFields.{StyleFields}
 use Rattle.mapdefs.specs.declared.symbol.Symbol.{Symbol}
 use Rattle.strokes.proofs.Short.{or-cases}
-use Rattle.strokes.specs.Line.{LineValue, line_of}
-use Rattle.strokes.specs.Line as line
+use Rattle.strokes.specs.Line.{line_of}
+use Rattle.strokes.specs.Round.{round_line}
 use Rattle.strokes.specs.Square.{SquareValue, covers_square}
 use Rattle.symbols.specs.Stamp as stamp
 use Rattle.viewport.specs.View.{ViewValue, device_point}
@@ -32,6 +33,7 @@ use Rattle.compose.specs.Near.{PaintsNear, furthest, margin_of, reach_of, side_o
 use Rattle.vertices.proofs.NearBoxes.{AreRound, box-in}
 use Rattle.vertices.proofs.Finding.{any-flat_map, contains-flat, found-there}
 use Rattle.vertices.proofs.NearLines.{line-round}
+use Rattle.vertices.proofs.NearRounds.{round_line-round}
 use Rattle.vertices.proofs.NearShapes.{IsBy, by-round, fill-round, square-by, stamp-by}
 
 -- no style of the list paints further than the furthest
@@ -52,25 +54,42 @@ fills-cover : (rings : List (List DevicePoint)) (colour : Option Rgb) (i j : ℕ
 fills-cover rings None i j h = absurd (cc)
 fills-cover rings (Some colour) i j h = one-shape (is_inside rings (pixel_centre (pos i) (pos j))) h
 
-strokes-cover : (stroke : LineValue) (colour : Option Rgb) (i j : ℕ) → list_any (λ t. covers t i j) (strokes stroke colour) ≡ true → line.covers_pixel stroke (pos i) (pos j) ≡ true
-strokes-cover stroke None i j h = absurd (cc)
-strokes-cover stroke (Some colour) i j h = one-shape (line.covers_pixel stroke (pos i) (pos j)) h
+strokes-cover : (line : Rgb → PaintedShape) (colour : Option Rgb) (i j : ℕ) → list_any (λ t. covers t i j) (strokes line colour) ≡ true → (c : Rgb) × (covers (line c) i j ≡ true)
+strokes-cover line None i j h = absurd (cc)
+strokes-cover line (Some colour) i j h = (colour, one-shape (covers (line colour) i j) h)
 
 marks-cover : (square : SquareValue) (colour : Option Rgb) (i j : ℕ) → list_any (λ t. covers t i j) (marks square colour) ≡ true → covers_square square (pos i) (pos j) ≡ true
 marks-cover square None i j h = absurd (cc)
 marks-cover square (Some colour) i j h = one-shape (covers_square square (pos i) (pos j)) h
+
+-- a line, stepped or round
+strokes-round : (view : ViewValue) (margin : ℕ) (closed : Bool) (width : ℕ) (parts : List (List Place)) (colour : Option Rgb) (i j : ℕ) →
+    view.factor * width ≤ margin → i < view.width → j < view.height →
+    list_any (λ t. covers t i j) (strokes (line_by view.factor (map (map (device_point view)) parts) closed width) colour) ≡ true → AreRound view margin (flat_map (λ part. part) parts)
+strokes-round view margin closed width parts colour i j wide column row h =
+    let (c, e) = strokes-cover (line_by view.factor (map (map (device_point view)) parts) closed width) colour i j h in go (nat_lt 1 view.factor) c e
+  where
+    fine : ℕ
+    fine = view.factor * width
+
+    rings : List (List DevicePoint)
+    rings = map (map (device_point view)) parts
+
+    go : (t : Bool) (c : Rgb) → covers (if t then RoundStroke (round_line rings closed fine) c else Stroke (line_of rings closed fine) c) i j ≡ true →
+        AreRound view margin (flat_map (λ part. part) parts)
+    go true c e = round_line-round view margin closed fine parts i j wide column row e
+    go false c e = line-round view margin closed fine parts i j wide column row e
 
 -- a polygon
 polygon-round : (view : ViewValue) (margin : ℕ) (feature : FeatureFields) (style : StyleFields) (i j : ℕ) → view.factor * style.width ≤ margin → i < view.width → j < view.height →
     list_any (λ t. covers t i j) (polygon_shapes view.factor (parts_of view feature) style) ≡ true → AreRound view margin (points_of feature)
 polygon-round view margin feature style i j wide column row h =
     let rings : List (List DevicePoint) = parts_of view feature in
-    let width = view.factor * style.width in
     let first : List PaintedShape = fills rings style.colour in
-    let second : List PaintedShape = strokes (line_of rings true width) style.outline in
+    let second : List PaintedShape = strokes (line_by view.factor rings true style.width) style.outline in
     ⊎_elim
     (λ (e : list_any (λ t. covers t i j) first ≡ true). fill-round view margin feature.parts i j column row (fills-cover rings style.colour i j e))
-    (λ (e : list_any (λ t. covers t i j) second ≡ true). line-round view margin true width feature.parts i j wide column row (strokes-cover (line_of rings true width) style.outline i j e))
+    (λ (e : list_any (λ t. covers t i j) second ≡ true). strokes-round view margin true style.width feature.parts style.outline i j wide column row e)
     (or-cases (list_any (λ t. covers t i j) first) (list_any (λ t. covers t i j) second) (sym (list_any-append (λ t. covers t i j) first second) ∙ h))
 
 -- a symbol at a point
@@ -118,8 +137,7 @@ style-round view margin symbols kind.Polygon feature style i j most column row h
     polygon-round view margin feature style i j wide column row h
 style-round view margin symbols kind.Line feature style i j most column row h =
     let wide : view.factor * style.width ≤ margin = width-within view.factor symbols style margin most in
-    line-round view margin false (view.factor * style.width) feature.parts i j wide column row
-    (strokes-cover (line_of (parts_of view feature) false (view.factor * style.width)) style.colour i j h)
+    strokes-round view margin false style.width feature.parts style.colour i j wide column row h
 style-round view margin symbols kind.Point feature style i j most column row h =
     let size = view.factor * style.size in
     let both = max (view.factor * style.width) size in

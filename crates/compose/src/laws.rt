@@ -6,8 +6,6 @@ ghost use Rattle.compose.specs.Classes.{CommonClassIsOfAll};
 ghost use Rattle.compose.specs.Labels.{FoundLabelAll};
 ghost use Rattle.compose.specs.Near.{CandidatesPaintAll, PaintsNear};
 ghost use Rattle.compose.specs.Picture.{HasOnePicture, LastMentionsPaintAll};
-ghost use Rattle.compose.specs.Smooth.{BlocksHaveWholePixels, HasOneSmoothPicture, RowsBeginAnywhere, SmoothByOneIsThePicture};
-ghost use Rattle.compose.specs.Tiles.{DrawnIsSmooth};
 ghost use Rattle.compose.specs.Walk.{PaintListIsOfClassified};
 
 /// A feature that paints a pixel of the picture has its box in the window of its layer's margin. So what is
@@ -73,29 +71,4 @@ pub fn blocks_are_parts()
 /// The background that is painted over with what a block has is the block of the whole picture.
 pub fn painted_blocks()
     ensures { PaintedBlocksAreBlocks }
-{}
-
-/// A pixel of a smoothed block is that of the smoothed whole, if the block begins with a whole pixel.
-pub fn blocks_have_whole_pixels()
-    ensures { BlocksHaveWholePixels }
-{}
-
-/// There is one smoothed picture.
-pub fn one_smooth_picture()
-    ensures { HasOneSmoothPicture }
-{}
-
-/// Where a map's pixel is one pixel of the picture, the smoothed picture is the picture.
-pub fn smooth_by_one()
-    ensures { SmoothByOneIsThePicture }
-{}
-
-/// Tiles of the whole fine picture with its labels make the smoothed picture.
-pub fn drawn_is_smooth()
-    ensures { DrawnIsSmooth }
-{}
-
-/// A row of the smoothed picture of some pixels is the first one of the pixels without those of the rows before it.
-pub fn rows_begin_anywhere()
-    ensures { RowsBeginAnywhere }
 {}

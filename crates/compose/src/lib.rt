@@ -9,21 +9,18 @@
 //! (`laws::last_mentions_paint_all`).
 //!
 //! A block of a picture has in each pixel what the whole picture has there (`laws::blocks_are_parts`), so a picture may be painted
-//! block by block: `draw_block` gives a block (`IsBlockOf`), over which the `Labels` of the whole picture are painted. `smooth_picture`
-//! gives the smoothed picture, tile by tile (`IsSmoothPictureOf`): each pixel is the mean of so many columns and rows of a fine
-//! picture. There is one (`laws::one_smooth_picture`), and by a factor of 1 it is the picture (`laws::smooth_by_one`).
+//! block by block: `draw_block` gives a block (`IsBlockOf`), over which the `Labels` of the whole picture are painted.
 //!
 //! Terms: a *shape* is that of `canvas`. The *paint list* has the shapes of the chosen layers in order: a layer's features, a
 //! feature's styles, the points of a feature. A feature of the chosen layers is *classified* when it has a class at the
-//! scale. A *tile* is a part of a smoothed picture, and the *block* of its pixels a part of the fine one. A *candidate* is a text that may be placed, and its *anchor* the pixel that its label's positions lie round.
+//! scale. A *block* is a part of a picture. A *candidate* is a text that may be placed, and its *anchor* the pixel that its
+//! label's positions lie round.
 #![tactic(auto)]
 
 mod anchor;
 mod block;
 mod classified_feature;
 mod drawing;
-mod fine_picture;
-mod fine_scene;
 mod ink;
 mod label;
 mod label_scene;
@@ -32,21 +29,10 @@ mod labels;
 pub mod laws;
 mod layer_classes;
 mod margin;
-mod means;
 mod paint;
 mod polygon;
 mod reach;
-mod smooth;
-mod tile;
-mod tile_rows;
-mod tiles;
 
 pub use block::draw_block;
-pub use fine_picture::{FinePicture, MeanPicture};
-pub use fine_scene::FineScene;
 pub use labels::Labels;
-pub use means::Means;
 pub use paint::{PictureQuery, draw, picture};
-pub use smooth::smooth_picture;
-pub use tile::Tile;
-pub use tiles::draw_tiles;

@@ -1,5 +1,6 @@
 pub mod Graining
 pub mod Quieting
+pub mod RoundBlocks
 pub mod RoundFilling
 pub mod RoundStroking
 pub mod Stripping

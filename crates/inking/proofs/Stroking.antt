@@ -2,7 +2,7 @@
 use Rattle.std.proofs.Common.{◌≡◌, ◌∙◌, ℕ, ◌*◌, ◌/◌, ◌%◌, ◌<◌, ◌≤◌, Bool, true, false, ◌||◌, cond, List, [], ◌∷◌, map, length, take, take_all, Option, Some, refl, sym, ap, arith, ⊎_elim}
 use Rattle.std.proofs.lemmas.Bool.{and_parts, false≢true, or_right}
 use Rattle.std.proofs.lemmas.Int.{ints}
-use Rattle.std.specs.Prelude.{int_le}
+use Rattle.std.specs.Prelude.{int_le, nat_lt}
 use Rattle.geom.proofs.Products.{le_of}
 use Rattle.strokes.specs.Short.{are_abreast, are_close, are_neighbours}
 use Rattle.strokes.proofs.Short.{or-cases}
@@ -15,12 +15,14 @@ use Rattle.geom.specs.World.{Area, Place}
 use Rattle.mapdefs.specs.declared.colour.Rgb.{Rgb}
 use Rattle.mapdefs.specs.declared.picture.PictureFields.{PictureFields}
 use Rattle.strokes.specs.Line.{covers_centre, covers_pixel, line_of, segment_along, segments_of, square_at}
+use Rattle.strokes.specs.Round.{round_line}
+use Rattle.strokes.specs.Round as round
 use Rattle.strokes.specs.Segment.{covers_segment}
 use Rattle.strokes.specs.Square.{covers_square}
 use Rattle.strokes.proofs.Sequences.{nothing}
 use Rattle.strokes.proofs.Parts.{edges_of-following, following}
 use Rattle.viewport.specs.View.{ViewValue, device_point}
-use Rattle.canvas.specs.Shapes.{Stroke}
+use Rattle.canvas.specs.Shapes.{RoundStroke, Stroke, line_by}
 use Rattle.canvas.specs.Painted.{IsFilled, IsPainted, colour_of}
 use Rattle.inking.specs.declared.trail.Trail.{Trail}
 use Rattle.inking.specs.Stroked.{HasAlready, IsOf, IsQuiet, IsTrail, PenValue, has_place, part_covers, pen_covers, rest_covers, segment_covers, step_covers, vertex_covers}
@@ -250,14 +252,25 @@ parts-end closed pen parts k a b end f =
     (λ i j. Some pen.colour) a b (λ i j. any-mapped closed pen parts i j ∙ parts-line closed pen.width (map (map (device_point pen.view)) parts) i j)
     (rw (take_all k parts end) at f)
 
--- what a line fills is painted over with it
+-- what a line fills is painted over with the line by the factor of the picture, where that is 1
 pub stroked : (pen : PenValue) (parts : List (List Place)) (closed : Bool) (width : ℕ) (colour : Rgb) (view : ViewValue) (a b : PictureFields) →
-    pen ≡ record { view = view; width = width; colour = colour } →
+    pen ≡ record { view = view; width = view.factor * width; colour = colour } → nat_lt 1 view.factor ≡ false →
     IsFilled (λ i j. covers_pixel (line_of (map (map (device_point pen.view)) parts) closed pen.width) (pos i) (pos j)) (λ i j. Some pen.colour) a b →
-    IsPainted a b (Stroke (line_of (map (map (device_point view)) parts) closed width) colour ∷ [])
-stroked pen parts closed width colour view a b e f =
-    painted-shape (Stroke (line_of (map (map (device_point view)) parts) closed width) colour) (λ i j. covers_pixel (line_of (map (map (device_point view)) parts) closed width) (pos i) (pos j)) (λ i j. Some colour)
-    a b (λ i j. refl) (λ i j. refl) (rw e at f)
+    IsPainted a b (line_by view.factor (map (map (device_point view)) parts) closed width colour ∷ [])
+stroked pen parts closed width colour view a b e one f =
+    rw one (painted-shape (Stroke (line_of (map (map (device_point view)) parts) closed (view.factor * width)) colour)
+    (λ i j. covers_pixel (line_of (map (map (device_point view)) parts) closed (view.factor * width)) (pos i) (pos j)) (λ i j. Some colour)
+    a b (λ i j. refl) (λ i j. refl) (rw e at f))
+
+-- and what a round one fills, where that is more
+pub rounded : (pen : PenValue) (parts : List (List Place)) (closed : Bool) (width : ℕ) (colour : Rgb) (view : ViewValue) (a b : PictureFields) →
+    pen ≡ record { view = view; width = view.factor * width; colour = colour } → nat_lt 1 view.factor ≡ true →
+    IsFilled (λ i j. round.covers_pixel (round_line (map (map (device_point pen.view)) parts) closed pen.width) (pos i) (pos j)) (λ i j. Some pen.colour) a b →
+    IsPainted a b (line_by view.factor (map (map (device_point view)) parts) closed width colour ∷ [])
+rounded pen parts closed width colour view a b e more f =
+    rw more (painted-shape (RoundStroke (round_line (map (map (device_point view)) parts) closed (view.factor * width)) colour)
+    (λ i j. round.covers_pixel (round_line (map (map (device_point view)) parts) closed (view.factor * width)) (pos i) (pos j)) (λ i j. Some colour)
+    a b (λ i j. refl) (λ i j. refl) (rw e at f))
 
 -- what passes a test with its colour, passes a weaker one with it, off the picture too
 pub already-weaker : (s t : ℕ → ℕ → Bool) (colour : ℕ → ℕ → Option Rgb) (a : PictureFields) → ((i j : ℕ) → s i j ≡ true → t i j ≡ true) → IsFilled t colour a a → IsFilled s colour a a

@@ -5,17 +5,16 @@ use Rattle.geom.specs.Device.{DevicePoint, pixel_of}
 use Rattle.geom.specs.World.{Place}
 use Rattle.mapdefs.specs.declared.style.StyleFields.{StyleFields}
 use Rattle.mapdefs.specs.declared.symbol.Symbol.{Symbol}
-use Rattle.strokes.specs.Line.{line_of}
 use Rattle.viewport.specs.View.{ViewValue, device_point}
-use Rattle.canvas.specs.Shapes.{PaintedShape, marks, stamps, strokes}
+use Rattle.canvas.specs.Shapes.{PaintedShape, line_by, marks, stamps, strokes}
 
 -- what a style paints of lines, where a map's pixel is so many of the picture's: the line along them
 abbrev pub line_shapes : ℕ → List (List DevicePoint) → StyleFields → List PaintedShape
-line_shapes factor parts style = strokes (line_of parts false (factor * style.width)) style.colour
+line_shapes factor parts style = strokes (line_by factor parts false style.width) style.colour
 
 -- what it paints of the outlines of polygons: the closed line along their rings
 abbrev pub outline_shapes : ℕ → List (List DevicePoint) → StyleFields → List PaintedShape
-outline_shapes factor rings style = strokes (line_of rings true (factor * style.width)) style.outline
+outline_shapes factor rings style = strokes (line_by factor rings true style.width) style.outline
 
 -- what a style paints of a point: the pixmap of its symbol round the point's pixel, or without a symbol a square round it
 abbrev pub point_shapes : ViewValue → List Symbol → StyleFields → Place → List PaintedShape

@@ -1,8 +1,9 @@
 //! Lines, outlines and points that are painted: vertex by vertex, and what needs no painting is skipped.
 //!
 //! Proved: `paint_lines`, `paint_outline` and `paint_points` paint over the canvas what a style gives for lines
-//! (`line_shapes`), for the outline of a polygon and for points (`point_shapes`). A line covers what its segments and the
-//! squares round its vertices cover, whatever of them was skipped. `paint_round_parts` fills what a round line covers.
+//! (`line_shapes`), for the outline of a polygon (`outline_shapes`) and for points (`point_shapes`). A line covers what its
+//! segments and the squares round its vertices cover, whatever of them was skipped. On a picture that is more than once as
+//! fine as the map a line is round: `paint_round_line` fills what its round segments cover.
 //!
 //! Terms: a *step* of a line is a segment and the square round its second vertex, and a box is *quiet* where a step within
 //! it needs no painting. A *pen* has the width and the colour of a line. The *grain* of a projection is how many whole
@@ -15,6 +16,7 @@ mod outline;
 mod pen;
 mod points;
 mod round_fill;
+mod round_pen;
 mod round_stroke;
 mod strips;
 mod stroke;
@@ -23,4 +25,3 @@ mod trail;
 pub use lines::paint_lines;
 pub use outline::paint_outline;
 pub use points::paint_points;
-pub use round_stroke::{RoundPen, paint_round_parts};

@@ -5,6 +5,8 @@ ghost use Rattle.inking.specs.Styles.{line_shapes};
 ghost use Rattle.canvas.specs.Painted.{IsPainted};
 
 use crate::pen::Pen;
+use crate::round_pen::RoundPen;
+use crate::round_stroke::paint_round_line;
 use crate::stroke::paint_along_parts;
 use canvas::Canvas;
 use mapdefs::{Part, Style};
@@ -29,7 +31,7 @@ pub fn paint_lines(
     Ok(())
 }
 
-// Paints the line along the parts by one style, where it has a colour.
+// Paints the line along the parts by one style, where it has a colour. On a fine picture it is round.
 fn paint_by_style(
     canvas: &mut Canvas,
     scene: &Scene<'_>,
@@ -44,6 +46,10 @@ fn paint_by_style(
     let Some(colour) = style.colour else {
         return Ok(());
     };
+    if scene.factor().times() > 1 {
+        let pen = RoundPen::of_map(canvas, scene, style.width, colour)?;
+        return paint_round_line(canvas, pen, parts, false);
+    }
     let pen = Pen::of_map(canvas, scene, style.width, colour);
     paint_along_parts(canvas, &pen, parts, false)
 }

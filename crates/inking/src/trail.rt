@@ -14,3 +14,10 @@ pub struct Tip {
     pub from: World,
     pub at: Device,
 }
+
+/// Where the last vertex of a round line lies, and whether the disc round it is known to be painted.
+#[derive(Clone, Copy)]
+pub struct RoundTip {
+    pub at: Device,
+    pub has_disc: bool,
+}

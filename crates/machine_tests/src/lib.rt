@@ -19,4 +19,6 @@ mod queried_layers;
 #[cfg(test)]
 mod runs;
 #[cfg(test)]
+mod smoothed_lines;
+#[cfg(test)]
 mod tiles;

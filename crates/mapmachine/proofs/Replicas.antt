@@ -3,7 +3,7 @@ use Rattle.std.proofs.Common.{◌≡◌, ◌∙◌, ◌≤◌, ◌&&◌, ℕ, ar
 use Rattle.std.proofs.lemmas.Bool.{leb-true}
 use Rattle.std.specs.List.{AllZip}
 use Rattle.batches.specs.Batch.{State, accepted}
-use Rattle.compose.specs.Smooth.{HasOneSmoothPicture}
+use Rattle.supersampling.specs.Smooth.{HasOneSmoothPicture}
 use Rattle.featureinfo.specs.Hits.{AreHits, HasOneHitList}
 use Rattle.featureinfo.specs.declared.layer_hits.LayerHits.{LayerHits}
 use Rattle.mapdefs.specs.declared.layer.LayerFields.{LayerFields}

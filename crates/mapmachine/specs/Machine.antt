@@ -25,7 +25,7 @@ use Rattle.batches.specs.Batch.{State, batched}
 use Rattle.capabilities.specs.Document.{document}
 use Rattle.png.specs.Decode.{decoded}
 use Rattle.symbols.specs.Netpbm.{smooth_pam, smooth_ppm}
-use Rattle.compose.specs.Smooth.{IsSmoothPictureOf}
+use Rattle.supersampling.specs.Smooth.{IsSmoothPictureOf}
 use Rattle.featureinfo.specs.Answer as featureinfo
 use Rattle.featureinfo.specs.Hits.{AreHitsOf}
 use Rattle.featureinfo.specs.declared.layer_hits.LayerHits.{LayerHits}

@@ -3,8 +3,8 @@
 ghost use Rattle.mapmachine.specs.Machine.{PublishedCounts};
 ghost use Rattle.mapmachine.specs.Replicas.{ReplicasAnswerAlike};
 
-use compose::laws::one_smooth_picture;
 use featureinfo::laws::one_hit_list;
+use supersampling::laws::one_smooth_picture;
 use wmsquery::laws::one_meaning;
 
 /// The sequence after a run is that before it plus the number of the batches that were published.

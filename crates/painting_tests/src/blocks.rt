@@ -2,11 +2,12 @@ ghost use Rattle.std.specs.Prelude.{◌≡◌, None, length, IfSome};
 ghost use Rattle.viewport.specs.View.{IsOnSide};
 
 use crate::painted_maps::{letters_of, map_of_two};
-use compose::{FineScene, Labels, PictureQuery, draw_block};
+use compose::{Labels, PictureQuery, draw_block};
 use geom::{Factor, Micro, PictureSide, WorldBox};
 use mapdefs::{AllFeatures, Map, Picture, Rgb};
 use scaledenom::Scale;
 use std::alloc::{AllocError, Global};
+use supersampling::FineScene;
 use test_tables::{TableFault, check_rows, numbers};
 use viewport::{Fine, Heights, Stretch, View};
 

@@ -11,4 +11,6 @@ mod painted_maps;
 #[cfg(test)]
 mod painted_pixels;
 #[cfg(test)]
+mod round_lines;
+#[cfg(test)]
 mod smoothed;

@@ -2,17 +2,24 @@ ghost use Rattle.std.specs.Prelude.{◌≡◌, length};
 
 use crate::blocks::{fine, scale};
 use crate::painted_maps::{colour_of, map_of_two};
-use compose::{FineScene, PictureQuery, smooth_picture};
+use compose::PictureQuery;
 use mapdefs::{AllFeatures, Map, Rgb, Rgba, SmoothPicture};
 use std::alloc::{AllocError, Global};
+use supersampling::{FineScene, smooth_picture};
 use test_tables::{TableFault, check_rows};
+use viewport::Fine;
 
-// The smoothed picture of two pixels by two: the first layer over a background that may be none.
-fn smoothed(alloc: Global, map: &Map, background: Option<Rgb>) -> Result<SmoothPicture, AllocError>
+/// The smoothed picture of a view: the first layer over a background that may be none.
+pub(crate) fn smoothed(
+    alloc: Global,
+    map: &Map,
+    fine: Fine,
+    background: Option<Rgb>,
+) -> Result<SmoothPicture, AllocError>
     requires { length map.now.layers ≡ 2 }
 {
     let near = AllFeatures::of(alloc, map);
-    let scene = FineScene::new(map, fine().ok_or(AllocError)?, scale());
+    let scene = FineScene::new(map, fine, scale());
     let asked = PictureQuery {
         chosen: &[0],
         background,
@@ -31,12 +38,12 @@ fn write_pixel(text: &mut String, pixel: &Rgba) -> Result<(), AllocError> {
     Ok(())
 }
 
-// The pixels for a row: the letter of the background, and the rings of a polygon in tenths of a degree.
+// The pixels of a picture of two pixels by two for a row: the letter of the background, and the rings of a polygon in tenths of a degree.
 fn pixels_of_row(alloc: Global, row: &str) -> Result<String, AllocError> {
     let (ground, rings) = row.split_once(';').unwrap_or(("", ""));
     let map = map_of_two(alloc, "polygon #/- none", rings)?;
     let background = colour_of(ground.as_bytes().first().copied().unwrap_or(b'-'));
-    let picture = smoothed(alloc, &map, background)?;
+    let picture = smoothed(alloc, &map, fine().ok_or(AllocError)?, background)?;
     let mut text = String::new(alloc);
     for pixel in picture.get().pixels.as_slice() {
         write_pixel(&mut text, pixel)?;

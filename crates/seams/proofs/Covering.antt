@@ -15,7 +15,7 @@ use Rattle.smoothing.specs.Fine.{pixels_in, smoothed}
 use Rattle.smoothing.specs.Laws.{AlphasAreShares}
 use Rattle.canvas.specs.Painted.{colour_at}
 use Rattle.canvas.specs.Shapes.{PaintedShape, Fill, colour_in, covers}
-use Rattle.compose.specs.Smooth.{BlocksHaveWholePixels}
+use Rattle.supersampling.specs.Smooth.{BlocksHaveWholePixels}
 use Rattle.seams.specs.Seams.{HaveNoSeams, Neighbours, along, back, both_over, outline}
 use Rattle.seams.proofs.Chains.{shared-chains}
 

@@ -2,8 +2,8 @@
 
 ghost use Rattle.seams.specs.Seams.{HaveNoSeams, SharedChainsCancel};
 
-use compose::laws::blocks_have_whole_pixels;
 use smoothing::laws::alphas;
+use supersampling::laws::blocks_have_whole_pixels;
 
 /// Two polygons on the two sides of a chain that both have, the one forth and the other back, cover together what the
 /// ring round both covers.

@@ -8,7 +8,7 @@ use lib.IntN.{ℤ}
 use Rattle.geom.specs.Device.{DevicePoint, pixel_centre}
 use Rattle.geom.specs.Edge.{EdgeEnds}
 use Rattle.strokes.specs.Line.{segment_along}
-use Rattle.strokes.specs.Round.{covers_round, has_centre, is_abreast, is_close, is_round, point_edge, round_segments}
+use Rattle.strokes.specs.Round.{covers_round, has_centre, is_abreast, is_close, is_round, round_segments}
 use Rattle.strokes.specs.RoundLaw.{RoundLinesAreSameBack}
 use Rattle.strokes.proofs.Parts.{following, round_edges-following}
 use Rattle.strokes.proofs.RoundNear.{back-law, disc-law}
@@ -77,7 +77,7 @@ first-disc w p a b h =
     let e : EdgeEnds = record { from = a; to = b } in
     covers-parts w e p ∙ or_left (is_round w a p || is_round w b p) (is_abreast e p && is_close w e p) (or_left (is_round w a p) (is_round w b p) (sym (disc-law w a p) ∙ h))
 
-second-disc : (w : ℕ) (p a b : DevicePoint) → step w p b b ≡ true → step w p a b ≡ true
+pub second-disc : (w : ℕ) (p a b : DevicePoint) → step w p b b ≡ true → step w p a b ≡ true
 second-disc w p a b h =
     let e : EdgeEnds = record { from = a; to = b } in
     covers-parts w e p ∙ or_left (is_round w a p || is_round w b p) (is_abreast e p && is_close w e p) (or_right (is_round w a p) (is_round w b p) (sym (disc-law w b p) ∙ h))
@@ -105,5 +105,47 @@ part-back w p (x ∷ y ∷ rest) =
     ∙ (ap (λ t. (step w p y y || covers_from w p y rest) || t) (back-law w x y p)
     ∙ either-end (step w p x x) (step w p y y) (step w p x y) (covers_from w p y rest) (first-disc w p x y) (second-disc w p x y)))))
 
+-- the segment from the last vertex of a part to its first covers a point
+abbrev closing_covers : ℕ → DevicePoint → List DevicePoint → Bool
+closing_covers w p [] = false
+closing_covers w p (first ∷ rest) = step w p (last_of first rest) first
+
+closed-from : (w : ℕ) (i j : ℤ) (first from : DevicePoint) (rest : List DevicePoint) →
+    list_any (has_centre i j) (map (segment_along w) (following true first from rest))
+    ≡ (covers_from w (pixel_centre i j) from rest || step w (pixel_centre i j) (last_of from rest) first)
+closed-from w i j first from [] = or-turn (step w (pixel_centre i j) from first)
+closed-from w i j first from (to ∷ rest) =
+    ap (λ t. step w (pixel_centre i j) from to || t) (closed-from w i j first to rest)
+    ∙ or-group (step w (pixel_centre i j) from to) (covers_from w (pixel_centre i j) to rest) (step w (pixel_centre i j) (last_of to rest) first)
+
+-- a closed line covers what the open one does, and that segment
+closed-is : (w : ℕ) (i j : ℤ) (part : List DevicePoint) →
+    list_any (has_centre i j) (round_segments true w part) ≡ (covers_part w (pixel_centre i j) part || closing_covers w (pixel_centre i j) part)
+closed-is w i j [] = refl
+closed-is w i j (first ∷ rest) =
+    let p = pixel_centre i j in
+    ap (λ (edges : List EdgeEnds). list_any (has_centre i j) (map (segment_along w) edges)) (round_edges-following true (first ∷ rest) first rest refl)
+    ∙ (ap (λ t. step w p first first || t) (closed-from w i j first first rest)
+    ∙ or-group (step w p first first) (covers_from w p first rest) (step w p (last_of first rest) first))
+
+-- backwards a part begins with its last vertex, and ends with its first
+reverse-ends : (first : DevicePoint) (rest : List DevicePoint) →
+    (tail : List DevicePoint) × (reverse (first ∷ rest) ≡ last_of first rest ∷ tail) × (last_of (last_of first rest) tail ≡ first)
+reverse-ends first [] = ([], refl, refl)
+reverse-ends first (next ∷ rest) =
+    let (tail, e, f) = reverse-ends next rest in
+    (tail ++ first ∷ [], reverse-append (first ∷ []) (next ∷ rest) ∙ ap (λ (ys : List DevicePoint). ys ++ first ∷ []) e, last-append (last_of next rest) tail first)
+
+closing-back : (w : ℕ) (p : DevicePoint) (part : List DevicePoint) → closing_covers w p (reverse part) ≡ closing_covers w p part
+closing-back w p [] = refl
+closing-back w p (first ∷ rest) =
+    let (tail, e, f) = reverse-ends first rest in
+    ap (closing_covers w p) e ∙ (ap (λ (last : DevicePoint). step w p last (last_of first rest)) f ∙ back-law w (last_of first rest) first p)
+
 pub line-back : RoundLinesAreSameBack
-line-back w part i j = part-is w i j (reverse part) ∙ (part-back w (pixel_centre i j) part ∙ sym (part-is w i j part))
+line-back false w part i j = part-is w i j (reverse part) ∙ (part-back w (pixel_centre i j) part ∙ sym (part-is w i j part))
+line-back true w part i j =
+    let p = pixel_centre i j in
+    closed-is w i j (reverse part)
+    ∙ (ap (λ t. t || closing_covers w p (reverse part)) (part-back w p part)
+    ∙ (ap (λ t. covers_part w p part || t) (closing-back w p part) ∙ sym (closed-is w i j part)))

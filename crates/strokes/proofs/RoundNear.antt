@@ -136,7 +136,7 @@ other-end u s k m = rw (mul-sub m u s, mul-neg (m -ℤ k) s, sub-mul m k s) (go 
     go : (a b c : ℤ) → (a -ℤ b) -ℤ neg_ℤ (b -ℤ c) ≡ a -ℤ c
     go a b c = omega (arith, ints)
 
-along-back : (u v s t : ℤ) → (u -ℤ s) *ℤ neg_ℤ s +ℤ (v -ℤ t) *ℤ neg_ℤ t ≡ (square s +ℤ square t) -ℤ (u *ℤ s +ℤ v *ℤ t)
+pub along-back : (u v s t : ℤ) → (u -ℤ s) *ℤ neg_ℤ s +ℤ (v -ℤ t) *ℤ neg_ℤ t ≡ (square s +ℤ square t) -ℤ (u *ℤ s +ℤ v *ℤ t)
 along-back u v s t = rw (mul-neg (u -ℤ s) s, mul-neg (v -ℤ t) t, sub-mul u s s, sub-mul v t t) (go (u *ℤ s) (s *ℤ s) (v *ℤ t) (t *ℤ t))
   where
     go : (a b c d : ℤ) → neg_ℤ (a -ℤ b) +ℤ neg_ℤ (c -ℤ d) ≡ (b +ℤ d) -ℤ (a +ℤ c)
@@ -171,7 +171,7 @@ at-last u v s t r h = rw (one-one u s, one-one v t, one r) h
 past-end : (a b x : ℤ) → (x -ℤ a) -ℤ (b -ℤ a) ≡ x -ℤ b
 past-end a b x = omega (arith, ints)
 
-from-end : (e : EdgeEnds) (p : DevicePoint) →
+pub from-end : (e : EdgeEnds) (p : DevicePoint) →
     square ((p.x -ℤ e.from.x) -ℤ (e.to.x -ℤ e.from.x)) +ℤ square ((p.y -ℤ e.from.y) -ℤ (e.to.y -ℤ e.from.y)) ≡ apart e.to p
 from-end e p = rw (past-end e.from.x e.to.x p.x, past-end e.from.y e.to.y p.y)
 

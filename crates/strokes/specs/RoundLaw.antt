@@ -1,5 +1,5 @@
 -- What follows from the rules of round segments (docs/DRAWING.md, "When a pixel belongs to a round line").
-use Rattle.std.specs.Prelude.{◌≡◌, ℕ, ◌*◌, ◌↔◌, false, true, List, reverse, ℤ, pos, ◌+ℤ◌, ◌-ℤ◌, ◌*ℤ◌, ◌<ℤ◌, ◌≤ℤ◌}
+use Rattle.std.specs.Prelude.{◌≡◌, ℕ, ◌*◌, ◌↔◌, Bool, true, List, reverse, ℤ, pos, ◌+ℤ◌, ◌-ℤ◌, ◌*ℤ◌, ◌<ℤ◌, ◌≤ℤ◌}
 use Rattle.std.specs.List.{list_any}
 use Rattle.geom.specs.Device.{DevicePoint}
 use Rattle.geom.specs.Edge.{EdgeEnds}
@@ -31,7 +31,7 @@ RoundRowsAreRuns =
     (w : ℕ) (e : EdgeEnds) (x1 x x2 y : ℤ) → x1 ≤ℤ x → x ≤ℤ x2 → covers_round w e (record { x = x1; y = y }) ≡ true →
     covers_round w e (record { x = x2; y = y }) ≡ true → covers_round w e (record { x = x; y = y }) ≡ true
 
--- a part covers the same from its last vertex to its first
+-- a part covers the same from its last vertex to its first, also where the line is closed
 abbrev pub RoundLinesAreSameBack : Type 0
-RoundLinesAreSameBack = (w : ℕ) (part : List DevicePoint) (i j : ℤ) →
-    list_any (has_centre i j) (round_segments false w (reverse part)) ≡ list_any (has_centre i j) (round_segments false w part)
+RoundLinesAreSameBack = (closed : Bool) (w : ℕ) (part : List DevicePoint) (i j : ℤ) →
+    list_any (has_centre i j) (round_segments closed w (reverse part)) ≡ list_any (has_centre i j) (round_segments closed w part)

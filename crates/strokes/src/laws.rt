@@ -64,7 +64,7 @@ pub fn round_rows()
     ensures { RoundRowsAreRuns }
 {}
 
-/// A round line along a part covers the same pixels from its last vertex to its first.
+/// A round line along a part, open or closed, covers the same pixels from its last vertex to its first.
 pub fn round_line_back()
     ensures { RoundLinesAreSameBack }
 {}

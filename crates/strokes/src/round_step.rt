@@ -24,6 +24,7 @@ pub struct RoundStep<'a> {
     from: Device,
     to: Device,
     limit: i128,
+    plain: bool,
 }
 
 impl<'a> Model for RoundStep<'a> {
@@ -34,7 +35,7 @@ impl<'a> Model for RoundStep<'a> {
 
     ghost view = { λ s. record { edge = record { from = s.from; to = s.to }; width = s.chords.now } };
 
-    ghost invariant = { λ s. IsStep (record { edge = record { from = s.from; to = s.to }; width = s.chords.now }) s.limit };
+    ghost invariant = { λ s. IsStep (record { edge = record { from = s.from; to = s.to }; width = s.chords.now }) s.limit s.plain };
 }
 
 impl<'a> RoundStep<'a> {
@@ -45,11 +46,13 @@ impl<'a> RoundStep<'a> {
         ensures { result ≡ record { edge = record { from = from; to = to }; width = chords.now } }
     {
         let half = square_of_half(chords.width());
+        let length = apart(from, to);
         RoundStep {
             chords,
             from,
             to,
-            limit: limit(half, apart(from, to)),
+            limit: limit(half, length),
+            plain: chords.is_plain(length),
         }
     }
 
@@ -79,6 +82,9 @@ impl<'a> RoundStep<'a> {
         let other = self.chords.columns(self.to, row, end);
         let discs = joined(one, other);
         if discs.from < discs.to {
+            if self.plain {
+                return discs;
+            }
             return self.widened(discs, row, end);
         }
         match self.first_beside(row, end) {

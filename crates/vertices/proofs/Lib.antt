@@ -4,5 +4,6 @@ pub mod Finding
 pub mod NearBoxes
 pub mod NearEdges
 pub mod NearLines
+pub mod NearRounds
 pub mod NearShapes
 pub mod Placing

@@ -86,34 +86,47 @@ squares-points at w i j (part ∷ parts) =
     one [] = refl
     one (q ∷ points) = ap (λ b. covers_square (square_at w (at q)) (pos i) (pos j) || b) (one points)
 
+-- points lie all round a pixel of a line where it isn't covered that has all of them on one side, further off than half the line's width
+pub sides-round : (view : ViewValue) (margin w : ℕ) (points : List Place) (i j : ℕ) (covered : Bool) → w ≤ margin → i < view.width → j < view.height →
+    (list_any (λ q. int_le (device_point view q).x ((pixel_centre (pos i) (pos j)).x +ℤ pos (8 * w))) points ≡ false → covered ≡ false) →
+    (list_any (λ q. int_le ((pixel_centre (pos i) (pos j)).x -ℤ pos (8 * w)) (device_point view q).x) points ≡ false → covered ≡ false) →
+    (list_any (λ q. int_le (device_point view q).y ((pixel_centre (pos i) (pos j)).y +ℤ pos (8 * w))) points ≡ false → covered ≡ false) →
+    (list_any (λ q. int_le ((pixel_centre (pos i) (pos j)).y -ℤ pos (8 * w)) (device_point view q).y) points ≡ false → covered ≡ false) →
+    covered ≡ true → AreRound view margin points
+sides-round view margin w points i j covered wide column row right left bottom top is =
+    let at : Place → DevicePoint = device_point view in
+    let p : DevicePoint = pixel_centre (pos i) (pos j) in
+    record {
+      right = any-weaker (λ (q : Place). int_le (at q).x (p.x +ℤ pos (8 * w)) ≡ true) (λ (q : Place). (at q).x <ℤ pos (16 * (view.width + margin))) points
+          (λ (q : Place) (h : int_le (at q).x (p.x +ℤ pos (8 * w)) ≡ true). omega (arith, ints, le_of (at q).x (p.x +ℤ pos (8 * w)) h))
+          (Any-from_list_any (λ (q : Place). int_le (at q).x (p.x +ℤ pos (8 * w))) points
+          (must-pass (list_any (λ (q : Place). int_le (at q).x (p.x +ℤ pos (8 * w))) points) covered right is));
+      left = any-weaker (λ (q : Place). int_le (p.x -ℤ pos (8 * w)) (at q).x ≡ true) (λ (q : Place). neg_ℤ (pos (16 * margin)) ≤ℤ (at q).x) points
+          (λ (q : Place) (h : int_le (p.x -ℤ pos (8 * w)) (at q).x ≡ true). omega (arith, ints, le_of (p.x -ℤ pos (8 * w)) (at q).x h))
+          (Any-from_list_any (λ (q : Place). int_le (p.x -ℤ pos (8 * w)) (at q).x) points
+          (must-pass (list_any (λ (q : Place). int_le (p.x -ℤ pos (8 * w)) (at q).x) points) covered left is));
+      bottom = any-weaker (λ (q : Place). int_le (at q).y (p.y +ℤ pos (8 * w)) ≡ true) (λ (q : Place). (at q).y <ℤ pos (16 * (view.height + margin))) points
+          (λ (q : Place) (h : int_le (at q).y (p.y +ℤ pos (8 * w)) ≡ true). omega (arith, ints, le_of (at q).y (p.y +ℤ pos (8 * w)) h))
+          (Any-from_list_any (λ (q : Place). int_le (at q).y (p.y +ℤ pos (8 * w))) points
+          (must-pass (list_any (λ (q : Place). int_le (at q).y (p.y +ℤ pos (8 * w))) points) covered bottom is));
+      top = any-weaker (λ (q : Place). int_le (p.y -ℤ pos (8 * w)) (at q).y ≡ true) (λ (q : Place). neg_ℤ (pos (16 * margin)) ≤ℤ (at q).y) points
+          (λ (q : Place) (h : int_le (p.y -ℤ pos (8 * w)) (at q).y ≡ true). omega (arith, ints, le_of (p.y -ℤ pos (8 * w)) (at q).y h))
+          (Any-from_list_any (λ (q : Place). int_le (p.y -ℤ pos (8 * w)) (at q).y) points
+          (must-pass (list_any (λ (q : Place). int_le (p.y -ℤ pos (8 * w)) (at q).y) points) covered top is));
+    }
+
 -- a line has vertices all round a pixel that one of its segments covers
 segments-round : (view : ViewValue) (margin : ℕ) (closed : Bool) (w : ℕ) (parts : List (List Place)) (i j : ℕ) → w ≤ margin → i < view.width → j < view.height →
     list_any (λ e. covers_segment w e (pixel_centre (pos i) (pos j))) (flat_map (edges_of closed) (map (map (device_point view)) parts)) ≡ true →
     AreRound view margin (flat_map (λ part. part) parts)
 segments-round view margin closed w parts i j wide column row covered =
     let at : Place → DevicePoint = device_point view in
-    let points : List Place = flat_map (λ part. part) parts in
     let p : DevicePoint = pixel_centre (pos i) (pos j) in
     let f : EdgeEnds → Bool = λ e. covers_segment w e p in
-    let b : Bool = list_any f (flat_map (edges_of closed) (map (map at) parts)) in
-    record {
-      right = any-weaker (λ (q : Place). int_le (at q).x (p.x +ℤ pos (8 * w)) ≡ true) (λ (q : Place). (at q).x <ℤ pos (16 * (view.width + margin))) points
-          (λ (q : Place) (h : int_le (at q).x (p.x +ℤ pos (8 * w)) ≡ true). omega (arith, ints, le_of (at q).x (p.x +ℤ pos (8 * w)) h))
-          (Any-from_list_any (λ (q : Place). int_le (at q).x (p.x +ℤ pos (8 * w))) points
-          (must-pass (list_any (λ (q : Place). int_le (at q).x (p.x +ℤ pos (8 * w))) points) b (parts-fail closed at (λ v. int_le v.x (p.x +ℤ pos (8 * w))) f (right-segment w p) parts) covered));
-      left = any-weaker (λ (q : Place). int_le (p.x -ℤ pos (8 * w)) (at q).x ≡ true) (λ (q : Place). neg_ℤ (pos (16 * margin)) ≤ℤ (at q).x) points
-          (λ (q : Place) (h : int_le (p.x -ℤ pos (8 * w)) (at q).x ≡ true). omega (arith, ints, le_of (p.x -ℤ pos (8 * w)) (at q).x h))
-          (Any-from_list_any (λ (q : Place). int_le (p.x -ℤ pos (8 * w)) (at q).x) points
-          (must-pass (list_any (λ (q : Place). int_le (p.x -ℤ pos (8 * w)) (at q).x) points) b (parts-fail closed at (λ v. int_le (p.x -ℤ pos (8 * w)) v.x) f (left-segment w p) parts) covered));
-      bottom = any-weaker (λ (q : Place). int_le (at q).y (p.y +ℤ pos (8 * w)) ≡ true) (λ (q : Place). (at q).y <ℤ pos (16 * (view.height + margin))) points
-          (λ (q : Place) (h : int_le (at q).y (p.y +ℤ pos (8 * w)) ≡ true). omega (arith, ints, le_of (at q).y (p.y +ℤ pos (8 * w)) h))
-          (Any-from_list_any (λ (q : Place). int_le (at q).y (p.y +ℤ pos (8 * w))) points
-          (must-pass (list_any (λ (q : Place). int_le (at q).y (p.y +ℤ pos (8 * w))) points) b (parts-fail closed at (λ v. int_le v.y (p.y +ℤ pos (8 * w))) f (bottom-segment w p) parts) covered));
-      top = any-weaker (λ (q : Place). int_le (p.y -ℤ pos (8 * w)) (at q).y ≡ true) (λ (q : Place). neg_ℤ (pos (16 * margin)) ≤ℤ (at q).y) points
-          (λ (q : Place) (h : int_le (p.y -ℤ pos (8 * w)) (at q).y ≡ true). omega (arith, ints, le_of (p.y -ℤ pos (8 * w)) (at q).y h))
-          (Any-from_list_any (λ (q : Place). int_le (p.y -ℤ pos (8 * w)) (at q).y) points
-          (must-pass (list_any (λ (q : Place). int_le (p.y -ℤ pos (8 * w)) (at q).y) points) b (parts-fail closed at (λ v. int_le (p.y -ℤ pos (8 * w)) v.y) f (top-segment w p) parts) covered));
-    }
+    sides-round view margin w (flat_map (λ part. part) parts) i j (list_any f (flat_map (edges_of closed) (map (map at) parts))) wide column row
+    (parts-fail closed at (λ v. int_le v.x (p.x +ℤ pos (8 * w))) f (right-segment w p) parts) (parts-fail closed at (λ v. int_le (p.x -ℤ pos (8 * w)) v.x) f (left-segment w p) parts)
+    (parts-fail closed at (λ v. int_le v.y (p.y +ℤ pos (8 * w))) f (bottom-segment w p) parts) (parts-fail closed at (λ v. int_le (p.y -ℤ pos (8 * w)) v.y) f (top-segment w p) parts)
+    covered
 
 -- and all round one that the line covers
 pub line-round : (view : ViewValue) (margin : ℕ) (closed : Bool) (w : ℕ) (parts : List (List Place)) (i j : ℕ) → w ≤ margin → i < view.width → j < view.height →

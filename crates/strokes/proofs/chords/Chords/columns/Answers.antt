@@ -27,7 +27,7 @@ returns-then-down-halves-clause-all c = λ i less.
     let down : c.difference.result ≡ d = down-is c.difference.result (centre (pos c.args.row)) y c.row_centre.result c.row_centre.ensures.value
     (rw c.y.ensures.value at c.difference.ensures.value) c.row_centre.ensures.range c.y.ensures.limits.down in
     let size = size-is c.unsigned_abs-down.result c.difference.result d c.unsigned_abs-down.ensures.value c.difference.ensures.range down in
-    let none = no-row-chord s.width c.unsigned_abs-down.result s.halves.items d c.self.invariant size (omega (arith, c.if-down-halves.true, ap (λ (xs : List ℤ). length xs) c.as_slice-halves.ensures.value)) in
+    let none = no-row-chord s.width c.unsigned_abs-down.result s.halves.items d c.self.invariant.0 size (omega (arith, c.if-down-halves.true, ap (λ (xs : List ℤ). length xs) c.as_slice-halves.ensures.value)) in
     subst (λ (w : ℕ). has_column (record { from = 0; to = 0 }) i ≡ is_round w c.args.point (pixel_centre (pos i) (pos c.args.row))) c.self.view_is
     (no-columns i ∙ sym (no-chord (square_of_half s.width) (square d) (square (centre (pos i) -ℤ c.args.point.x)) none (square-nonneg (centre (pos i) -ℤ c.args.point.x))))
 
@@ -35,7 +35,7 @@ pub overflow_sub-x : goal.overflow_sub-x
 overflow_sub-x c =
     let same = ap (λ (xs : List ℤ). length xs) c.as_slice-halves.ensures.value in
     let below : IsBelow (2 ^ 61) c.half_at-half.result = rw (c.half_at-half.ensures, c.as_slice-halves.ensures.value)
-    (c.self.invariant.range c.unsigned_abs-down.result (omega (arith, same, c.if-down-halves.false))) in
+    (c.self.invariant.0.range c.unsigned_abs-down.result (omega (arith, same, c.if-down-halves.false))) in
     let side = below-more (2 ^ 47) (2 ^ 61) c.args.point.x (omega arith) c.x-x.ensures.limits.across in
     rw c.x-x.ensures.value (fits-less c.args.point.x c.half_at-half.result side below)
 
@@ -43,7 +43,7 @@ pub overflow_add-x : goal.overflow_add-x
 overflow_add-x c =
     let same = ap (λ (xs : List ℤ). length xs) c.as_slice-halves.ensures.value in
     let below : IsBelow (2 ^ 61) c.half_at-half.result = rw (c.half_at-half.ensures, c.as_slice-halves.ensures.value)
-    (c.self.invariant.range c.unsigned_abs-down.result (omega (arith, same, c.if-down-halves.false))) in
+    (c.self.invariant.0.range c.unsigned_abs-down.result (omega (arith, same, c.if-down-halves.false))) in
     let side = below-more (2 ^ 47) (2 ^ 61) c.args.point.x (omega arith) c.x-x.ensures.limits.across in
     rw c.x-x.ensures.value (fits-more c.args.point.x c.half_at-half.result side below)
 
@@ -51,7 +51,7 @@ pub centres_between-requires-clause-least : goal.centres_between-requires-clause
 centres_between-requires-clause-least c =
     let same = ap (λ (xs : List ℤ). length xs) c.as_slice-halves.ensures.value in
     let below : IsBelow (2 ^ 61) c.half_at-half.result = rw (c.half_at-half.ensures, c.as_slice-halves.ensures.value)
-    (c.self.invariant.range c.unsigned_abs-down.result (omega (arith, same, c.if-down-halves.false))) in
+    (c.self.invariant.0.range c.unsigned_abs-down.result (omega (arith, same, c.if-down-halves.false))) in
     let side = below-more (2 ^ 47) (2 ^ 61) c.args.point.x (omega arith) c.x-x.ensures.limits.across in
     rw (c.x-x.ensures.value, word-less c.args.point.x c.half_at-half.result side below) (below-less c.args.point.x c.half_at-half.result side below)
 
@@ -59,7 +59,7 @@ pub centres_between-requires-clause-most : goal.centres_between-requires-clause-
 centres_between-requires-clause-most c =
     let same = ap (λ (xs : List ℤ). length xs) c.as_slice-halves.ensures.value in
     let below : IsBelow (2 ^ 61) c.half_at-half.result = rw (c.half_at-half.ensures, c.as_slice-halves.ensures.value)
-    (c.self.invariant.range c.unsigned_abs-down.result (omega (arith, same, c.if-down-halves.false))) in
+    (c.self.invariant.0.range c.unsigned_abs-down.result (omega (arith, same, c.if-down-halves.false))) in
     let side = below-more (2 ^ 47) (2 ^ 61) c.args.point.x (omega arith) c.x-x.ensures.limits.across in
     rw (c.x-x.ensures.value, word-more c.args.point.x c.half_at-half.result side below) (below-sum c.args.point.x c.half_at-half.result side below)
 
@@ -73,11 +73,11 @@ returns-clause-all c = λ i less.
     let same = ap (λ (xs : List ℤ). length xs) c.as_slice-halves.ensures.value in
     let bound : k < length s.halves.items = omega (arith, same, c.if-down-halves.false) in
     let half : c.half_at-half.result ≡ get_or s.halves.items k (pos 0) = c.half_at-half.ensures ∙ ap (λ (xs : List ℤ). get_or xs k (pos 0)) c.as_slice-halves.ensures.value in
-    let below : IsBelow (2 ^ 61) c.half_at-half.result = rw half (c.self.invariant.range k bound) in
+    let below : IsBelow (2 ^ 61) c.half_at-half.result = rw half (c.self.invariant.0.range k bound) in
     let down : c.difference.result ≡ d = down-is c.difference.result (centre (pos c.args.row)) y c.row_centre.result c.row_centre.ensures.value
     (rw c.y.ensures.value at c.difference.ensures.value) c.row_centre.ensures.range c.y.ensures.limits.down in
     let size = size-is k c.difference.result d c.unsigned_abs-down.ensures.value c.difference.ensures.range down in
-    let root : IsRoot (square_of_half s.width -ℤ square d) c.half_at-half.result = rw half (row-chord s.width k s.halves.items d c.self.invariant size bound) in
+    let root : IsRoot (square_of_half s.width -ℤ square d) c.half_at-half.result = rw half (row-chord s.width k s.halves.items d c.self.invariant.0 size bound) in
     let side = below-more (2 ^ 47) (2 ^ 61) x (omega arith) c.x-x.ensures.limits.across in
     let all : has_column c.centres_between.result i ≡ is_round s.width c.args.point (pixel_centre (pos i) (pos c.args.row)) = rw (
       c.x-x.ensures.value,

@@ -3,9 +3,10 @@ use lib.IntN.{pos}
 use Rattle.geom.specs.Device.{pixel_centre}
 use Rattle.scanfill.specs.declared.span.Span.{Span}
 use Rattle.scanfill.specs.Runs.{has_column}
-use Rattle.strokes.specs.Chord.{is_beside}
-use Rattle.strokes.specs.Round.{covers_round, is_round, joined}
+use Rattle.strokes.specs.Chord.{NothingBetween, is_beside}
+use Rattle.strokes.specs.Round.{apart, covers_round, is_round, joined}
 use Rattle.strokes.specs.Segment.{SegmentValue}
+use Rattle.strokes.proofs.Gaps.{core-all, in-discs, joined-within}
 use Rattle.strokes.proofs.Rounded.{covers-parts, no-columns, row-between}
 use Rattle.strokes.proofs.Widening.{AreParts, IsWidened, beside-core, discs-core, in-joined, none-covered, widened-all}
 use Rattle.strokes.proofs.round_step.RoundStep.columns.Goals as goal
@@ -50,6 +51,24 @@ returns-then-discs-clause-all c =
     } in
     widened-all (covered v row) (first_disc v row) (second_disc v row) (beside v row) (joined c.columns-one.result c.columns-other.result) c.widened.result end
     (row-between v.width v.edge row) (parts v row) core (subst (λ (span : Span). IsWidened (beside v row) span c.widened.result end) c.joined-discs.ensures wide)
+
+pub returns-then-self-clause-all : goal.returns-then-self-clause-all
+returns-then-self-clause-all c =
+    let v : SegmentValue = c.args.self.now in
+    let row = c.args.row in
+    let end = c.args.end in
+    let one : (i : ℕ) → i < end → has_column c.columns-one.result i ≡ first_disc v row i =
+    subst (λ (v : SegmentValue). (i : ℕ) → i < end → has_column c.columns-one.result i ≡ first_disc v row i) c.self.view_is c.columns-one.ensures.all in
+    let two : (i : ℕ) → i < end → has_column c.columns-other.result i ≡ second_disc v row i =
+    subst (λ (v : SegmentValue). (i : ℕ) → i < end → has_column c.columns-other.result i ≡ second_disc v row i) c.self.view_is c.columns-other.ensures.all in
+    let core = discs-core (covered v row) (first_disc v row) (second_disc v row) (beside v row) c.columns-one.result c.columns-other.result end
+    (row-between v.width v.edge row) (parts v row) c.columns-one.ensures.within c.columns-other.ensures.within
+    (rw c.joined-discs.ensures at c.if-discs.true) (joined-within c.columns-one.result c.columns-other.result end c.columns-one.ensures.within c.columns-other.ensures.within) one two in
+    let none : NothingBetween v.width (apart v.edge.from v.edge.to) =
+    subst (λ (v : SegmentValue). NothingBetween v.width (apart v.edge.from v.edge.to)) c.self.view_is (c.self.invariant.plain c.if-self.true) in
+    subst (λ (span : Span). (i : ℕ) → i < end → has_column span i ≡ covered v row i) (sym c.joined-discs.ensures)
+    (core-all (covered v row) (first_disc v row) (second_disc v row) (joined c.columns-one.result c.columns-other.result) end core
+    (λ i. in-discs v.width v.edge (pixel_centre (pos i) (pos row)) none))
 
 pub returns-in-Some-clause-all : goal.returns-in-Some-clause-all
 returns-in-Some-clause-all c =

@@ -1,5 +1,0 @@
-use Rattle.compose.specs.TileRows.{HasTileRows}
-use Rattle.compose.proofs.tile_rows.fill_tile.Given as goal
-
-abbrev pub invariant-loop-row : goal.invariant-loop-row
-invariant-loop-row l = HasTileRows l.fine l.width l.tile l.row l.fn.pixels l.pixels

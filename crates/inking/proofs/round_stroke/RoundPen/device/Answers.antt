@@ -1,4 +1,0 @@
-use Rattle.inking.proofs.round_stroke.RoundPen.device.Goals as goal
-
-pub returns : goal.returns
-returns c = rw (← c.self.view_is) c.device.ensures

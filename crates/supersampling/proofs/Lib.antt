@@ -1,0 +1,3 @@
+pub mod Smoothing
+pub mod Tiled
+pub mod Tiling

@@ -1,0 +1,3 @@
+pub mod Smooth
+pub mod TileRows
+pub mod Tiles
