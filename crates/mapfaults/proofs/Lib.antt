@@ -1,3 +1,2 @@
 mod Explaining
-mod Lacks
 mod Marks

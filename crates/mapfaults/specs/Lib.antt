@@ -2,5 +2,3 @@ pub mod Explained
 pub mod Missing
 pub mod OnBytes
 pub mod Opening
-pub mod Unused
-pub mod Warning

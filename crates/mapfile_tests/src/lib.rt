@@ -29,6 +29,8 @@ mod results;
 #[cfg(test)]
 mod said;
 #[cfg(test)]
+mod small_bitmaps;
+#[cfg(test)]
 mod styles;
 #[cfg(test)]
 mod unused;

@@ -1,12 +1,12 @@
 use mapdefs::Map;
-use mapfaults::warning_lines;
 use mapparse::{Files, parse};
+use mapwarnings::warning_lines;
 use std::alloc::{AllocError, Global};
 use std::str;
 use test_tables::{TableFault, check_rows};
 
-// The warnings on a map, with `~` for the end of a line.
-fn warnings_on(alloc: Global, map: &Map) -> Result<String, AllocError> {
+/// The warnings on a map, with `~` for the end of a line.
+pub fn warnings_on(alloc: Global, map: &Map) -> Result<String, AllocError> {
     let lines = warning_lines(alloc, "a.map", map)?;
     let text = str::from_utf8(lines.as_slice()).unwrap_or("no text");
     text.replace(alloc, '\n', "~")

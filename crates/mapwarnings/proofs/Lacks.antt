@@ -4,7 +4,7 @@ use Rattle.std.specs.List.{list_any}
 use mathlib.Core.Former.{Count}
 use Rattle.mapdefs.specs.declared.expr.Expr.{Expr, Or', And', Not', Row_of-Expr, end_of-Expr, more_of-Expr, items-the_row-Expr, items_hidden-the_row-Expr-0, items_hidden-the_row-Expr-1}
 use Rattle.mapdefs.specs.declared.expr.Expr.TheVariants.{Or, And, Not}
-use Rattle.mapfaults.specs.Unused.{lacks_in, some_lacks}
+use Rattle.mapwarnings.specs.Unused.{lacks_in, some_lacks}
 
 or-false : (b : Bool) → (b || false) ≡ b
 or-false true = refl

@@ -1,6 +1,6 @@
 ghost use Rattle.std.specs.Prelude.{◌≡◌};
 ghost use Rattle.std.specs.List.{list_any};
-ghost use Rattle.mapfaults.specs.Unused.{has_item, has_label, is_bare, is_unclassed, lacks_in, lacks_named, lacks_of_rule, lacks_side};
+ghost use Rattle.mapwarnings.specs.Unused.{has_item, has_label, is_bare, is_unclassed, lacks_in, lacks_named, lacks_of_rule, lacks_side};
 
 use mapdefs::{ClassFields, Expr, LayerFields, Operand, Rule, Text};
 

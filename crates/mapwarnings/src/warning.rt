@@ -1,13 +1,13 @@
 ghost use Rattle.std.specs.Prelude.{◌≡◌, ◌++◌, IfOk, OnOk};
-ghost use Rattle.std.specs.List.{flat_map, list_any};
+ghost use Rattle.std.specs.List.{list_any};
 ghost use Rattle.mapwords.specs.Rule.{is_comma};
-ghost use Rattle.mapfaults.specs.Unused.{is_bare, lacks_of_rule};
-ghost use Rattle.mapfaults.specs.Warning.{drawing_warnings, is_beyond_degrees, is_default_address, item_warnings, layer_warnings, layers_warnings, marked, service_warnings, subject_of, text_warnings, warned, warning_line, warning_lines, warnings, message_of};
+ghost use Rattle.mapwarnings.specs.Unused.{is_bare, lacks_of_rule};
+ghost use Rattle.mapwarnings.specs.Warning.{drawing_warnings, is_beyond_degrees, is_default_address, item_warnings, layer_warnings, layers_warnings, service_warnings, text_warnings, warned, warnings};
+ghost use Rattle.mapwarnings.specs.Lines.{message_of};
 
 use crate::unused::{has_label, is_bare, is_unclassed, lacks_named, lacks_of_rule};
 use geom::{Micro, WorldBox};
-use itoa::Buffer;
-use mapdefs::{Class, Items, Layer, LayerFields, Map, MapFields, Text};
+use mapdefs::{Class, Layer, LayerFields, Map, MapFields, Text};
 use std::alloc::{AllocError, Global};
 use xmltext::has_forbidden;
 
@@ -52,9 +52,9 @@ pub struct Warning {
 }
 
 impl Concern {
-    // The message on it, which comes after what it is about.
-    #[tactic(auto, unfolding(crate::specs::Warning::message_of))]
-    fn message(self) -> &'static str
+    /// The message on it, which comes after what it is about.
+    #[tactic(auto, unfolding(crate::specs::Lines::message_of))]
+    pub(crate) fn message(self) -> &'static str
         ensures { result.now ≡ message_of self }
     {
         match self {
@@ -231,8 +231,8 @@ fn add_service(out: &mut Vec<Warning>, map: &MapFields) -> Result<(), AllocError
     add(out, beyond, Warning { layer, concern })
 }
 
-/// The warnings on a map, those on the service first, and then those on its layers in their order. The error is that
-/// memory was refused.
+/// The warnings on the service and the layers of a map, those on the service first, and then those on its layers in their
+/// order. The error is that memory was refused.
 pub fn warnings(alloc: Global, map: &Map) -> Result<Vec<Warning>, AllocError>
     ensures { IfOk result (λ found. found.items ≡ warnings map.now) }
 {
@@ -241,59 +241,4 @@ pub fn warnings(alloc: Global, map: &Map) -> Result<Vec<Warning>, AllocError>
     add_service(&mut out, map)?;
     add_layers(&mut out, map.font.is_some(), map.layers.as_slice())?;
     Ok(out)
-}
-
-// Adds what a warning is about.
-#[tactic(auto, unfolding(crate::specs::Warning::subject_of))]
-fn add_subject(out: &mut Vec<u8>, layer: Option<usize>) -> Result<(), AllocError>
-    ensures { OnOk result (out.new.items ≡ out.old.items ++ subject_of layer) }
-{
-    match layer {
-        Some(number) => {
-            out.extend_from_slice(b"LAYER ")?;
-            out.extend_from_slice(Buffer::new().format(number).as_bytes())
-        }
-        None => out.extend_from_slice(b"the service"),
-    }
-}
-
-// The bytes between the name of a mapfile and a warning.
-#[tactic(auto, unfolding(crate::specs::Warning::marked))]
-fn mark() -> &'static str
-    ensures { result.now ≡ marked }
-{
-    ": warning: "
-}
-
-// Adds the line of a warning.
-#[tactic(auto, unfolding(crate::specs::Warning::warning_line))]
-fn add_line(out: &mut Vec<u8>, name: &str, warning: Warning) -> Result<(), AllocError>
-    ensures { OnOk result (out.new.items ≡ out.old.items ++ warning_line name.now warning) }
-{
-    out.extend_from_slice(name.as_bytes())?;
-    out.extend_from_slice(mark().as_bytes())?;
-    add_subject(out, warning.layer)?;
-    out.extend_from_slice(warning.concern.message().as_bytes())?;
-    out.extend_from_slice(b"\n")
-}
-
-// Adds the lines of warnings.
-fn add_lines(out: &mut Vec<u8>, name: &str, warnings: &[Warning]) -> Result<(), AllocError>
-    ensures { OnOk result (out.new.items ≡ out.old.items ++ flat_map (warning_line name.now) warnings.now) }
-{
-    for warning in warnings {
-        add_line(out, name, *warning)?;
-    }
-    Ok(())
-}
-
-/// The lines of the warnings on a map, each with the name of the mapfile before it. The error is that memory was
-/// refused.
-pub fn warning_lines(alloc: Global, name: &str, map: &Map) -> Result<Items<u8>, AllocError>
-    ensures { IfOk result (λ text. text ≡ warning_lines name.now map.now) }
-{
-    let warnings = warnings(alloc, map)?;
-    let mut out = Vec::new(alloc);
-    add_lines(&mut out, name, &warnings)?;
-    Ok(Items::of(out))
 }

@@ -1,18 +1,17 @@
--- What in a map isn't as its clients need it, though the map has no fault (docs/MAPFILE.md, "Warnings").
-use Rattle.std.specs.Prelude.{◌==◌, ◌&&◌, ◌||◌, not, ℕ, ◌+◌, pos, neg_ℤ, int_lt, is_some, nat_eq, Bool, true, false, List, [], ◌∷◌, ◌++◌, length, Option, None, Some, codes}
+-- What in the service and the layers of a map isn't as clients need it, though the map has no fault (docs/MAPFILE.md, "Warnings").
+use Rattle.std.specs.Prelude.{◌==◌, ◌&&◌, ◌||◌, not, ℕ, ◌+◌, pos, neg_ℤ, int_lt, is_some, nat_eq, Bool, true, false, List, [], ◌∷◌, ◌++◌, length, None, Some, codes}
 use Rattle.std.specs.Cmp.Lexicographic.{pointwise}
-use Rattle.std.specs.Fmt.{decimal}
-use Rattle.std.specs.List.{flat_map, list_any}
+use Rattle.std.specs.List.{list_any}
 use Rattle.geom.specs.World.{Area}
 use Rattle.mapdefs.specs.declared.class.ClassFields.{ClassFields}
 use Rattle.mapdefs.specs.declared.map.MapFields.{MapFields}
 use Rattle.mapdefs.specs.declared.layer.LayerFields.{LayerFields}
 use Rattle.mapwords.specs.Rule.{is_comma}
 use Rattle.xmltext.specs.Characters.{has_forbidden}
-use Rattle.mapfaults.specs.Unused.{has_label, is_bare, is_unclassed, lacks_named, lacks_of_rule}
-use Rattle.mapfaults.specs.declared.warning.Concern.{Concern}
-use Rattle.mapfaults.specs.declared.warning.Concern.TheVariants as concern
-use Rattle.mapfaults.specs.declared.warning.Warning.{Warning}
+use Rattle.mapwarnings.specs.Unused.{has_label, is_bare, is_unclassed, lacks_named, lacks_of_rule}
+use Rattle.mapwarnings.specs.declared.warning.Concern.{Concern}
+use Rattle.mapwarnings.specs.declared.warning.Concern.TheVariants as concern
+use Rattle.mapwarnings.specs.declared.warning.Warning.{Warning}
 
 -- a warning on the service, and one on the layer of a number, counted from 1
 abbrev pub on_service : Concern → Warning
@@ -74,39 +73,6 @@ service_warnings map =
     ++ (warned (has_forbidden map.url) (on_service concern.ForbiddenInAddress)
     ++ warned (is_beyond_degrees map.extent) (on_service concern.BeyondDegrees)))
 
--- all: those on the service, and then those on the layers in the order of the mapfile
+-- both: those on the service, and then those on the layers in the order of the mapfile
 abbrev pub warnings : MapFields → List Warning
 warnings map = service_warnings map ++ layers_warnings (is_some map.font) 1 map.layers
-
--- what a warning is about
-unfoldable pub subject_of : Option ℕ → List ℕ
-subject_of None = codes "the service"
-subject_of (Some number) = codes "LAYER " ++ decimal number
-
--- the message on what isn't as it should be there
-unfoldable pub message_of : Concern → List ℕ
-message_of concern.NoAddress = codes " has no wms_onlineresource, and http://localhost/wms? has no port"
-message_of concern.EmptyName = codes " has an empty NAME, so that LAYERS can't ask for it"
-message_of concern.CommaInName = codes " has a NAME with a comma, so that LAYERS can't ask for it"
-message_of concern.ForbiddenInName = codes " has a NAME with a character that XML forbids"
-message_of concern.ForbiddenInTitle = codes " has a title with a character that XML forbids"
-message_of concern.ForbiddenInAddress = codes " has an address with a character that XML forbids"
-message_of concern.BeyondDegrees = codes " has an EXTENT beyond 180 degrees of longitude or 90 of latitude"
-message_of concern.UnknownLabelItem = codes " has a LABELITEM that is none of its items"
-message_of concern.UnknownClassItem = codes " has a CLASSITEM that is none of its items"
-message_of concern.UnknownItem = codes " has an EXPRESSION on an item that is none of its items"
-message_of concern.NoFont = codes " has a LABEL, and the map has no LABELFONT"
-message_of concern.NoClass = codes " has features and no CLASS"
-message_of concern.BareClass = codes " has a CLASS without STYLE and LABEL"
-
--- the bytes between the name of a mapfile and a warning
-unfoldable pub marked : List ℕ
-marked = codes ": warning: "
-
--- the line of a warning, which begins with the name of the mapfile
-unfoldable pub warning_line : List ℕ → Warning → List ℕ
-warning_line name w = name ++ (marked ++ (subject_of w.layer ++ (message_of w.concern ++ codes "\n")))
-
--- the lines of all warnings on a map
-abbrev pub warning_lines : List ℕ → MapFields → List ℕ
-warning_lines name map = flat_map (warning_line name) (warnings map)

@@ -1,7 +1,7 @@
 use Rattle.std.proofs.Common.{sym, ◌∙◌, ap}
-use Rattle.mapfaults.specs.Unused.{lacks_in}
-use Rattle.mapfaults.proofs.Lacks.{lacks-or, lacks-and, lacks-not}
-use Rattle.mapfaults.proofs.unused.+missing.Goals as goal
+use Rattle.mapwarnings.specs.Unused.{lacks_in}
+use Rattle.mapwarnings.proofs.Lacks.{lacks-or, lacks-and, lacks-not}
+use Rattle.mapwarnings.proofs.unused.+missing.Goals as goal
 
 pub lacks_in-returns-in-Or : goal.lacks_in-returns-in-Or
 lacks_in-returns-in-Or t c =

@@ -1,0 +1,4 @@
+pub mod Bitmap
+pub mod Lines
+pub mod Unused
+pub mod Warning
