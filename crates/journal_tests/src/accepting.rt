@@ -4,7 +4,6 @@ ghost use Rattle.std.specs.Prelude.{◌≡◌, ℕ, List};
 
 use crate::maps::machine;
 use crate::records::recorded_batches;
-use crate::tape::Tape;
 use history::Blank;
 use journal::{JournalName, push_header};
 use journalfile::{Journal, Recovered, recover};
@@ -14,6 +13,7 @@ use mapshare::{Accepted, KeepFailed, Retried, Sharing, open};
 use std::alloc::{AllocError, Global};
 use std::marker::Brand;
 use std::sync::Wait;
+use test_logs::Tape;
 use test_tables::{TableFault, check_rows};
 
 const JOURNAL: JournalName = JournalName {
@@ -91,7 +91,8 @@ fn result_of<R: AllocGlobal + Wait>(
     push_header(&mut bytes, &JOURNAL)?;
     let mut log = Tape::new(alloc, bytes, room);
     let mut machine = machine(alloc, "a")?;
-    let Ok(Recovered { count, .. }) = recover(alloc, &JOURNAL, &mut log, &mut machine) else {
+    let Ok(Recovered { count, length, .. }) = recover(alloc, &JOURNAL, &mut log, &mut machine)
+    else {
         return String::from_str(alloc, "not opened");
     };
     let before = log.syncs();
@@ -100,7 +101,7 @@ fn result_of<R: AllocGlobal + Wait>(
         log,
         name: JOURNAL,
         count,
-        length: 0,
+        length: length as u64,
     };
     let submission = Submission { keeper, batches };
     let Some((journal, outcome)) = accept::<Brand, Journal<Tape>, R>(

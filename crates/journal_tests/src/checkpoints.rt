@@ -1,12 +1,12 @@
 // Journals that are compacted where they are due as batches are kept. Lengths were worked by another program, from the rules of the format.
 
 use crate::starts::{PLAIN, keep, keep_compacted};
-use crate::tape::Tape;
 use crate::written::{batches_of, journal_of};
 use journal::push_header;
 use journalfile::Checkpoint;
 use std::alloc::{AllocError, Global};
 use std::test::Fail;
+use test_logs::Tape;
 
 // A CLEAR undoes those before it. The journal has 50 bytes more with each, or 51.
 const CLEARS: &str = "CLEAR p~\nCLEAR p~\nCLEAR p~\nCLEAR p~\nCLEAR p~\nCLEAR p~\nCLEAR p~";

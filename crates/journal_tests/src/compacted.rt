@@ -2,10 +2,10 @@
 
 use crate::maps::shown;
 use crate::starts::{Opened, PLAIN, compacted, found, keep, start};
-use crate::tape::Tape;
 use crate::written::{batches_of, journal_of};
 use std::alloc::{AllocError, Global};
 use std::test::Fail;
+use test_logs::Tape;
 
 /// Eight batches of two layers, the last of which is empty. The CLEARs undo the values a, g, b and e, the last ON of p its OFF, and the
 /// last OFF of q the others.

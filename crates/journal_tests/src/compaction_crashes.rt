@@ -2,11 +2,11 @@
 
 use crate::compacted::{BATCHES, MORE};
 use crate::starts::{Opened, PLAIN, keep, shown_after, start};
-use crate::tape::Tape;
 use crate::written::{batches_of, journal_of};
 use std::alloc::{AllocError, Global};
 use std::slice::from_ref;
 use std::test::Fail;
+use test_logs::Tape;
 
 // What the map shows after the batches, and after each that follows.
 const SHOWN: [&str; 3] = [
@@ -47,7 +47,7 @@ fn each_showed(
     from: usize,
     shown: &[&str],
 ) -> Result<bool, AllocError> {
-    for moment in tape.past.get(from..).unwrap_or(&[]) {
+    for moment in tape.past().get(from..).unwrap_or(&[]) {
         if !both_show(alloc, &moment.bytes, moment.synced, shown)? {
             return Ok(false);
         }
@@ -61,7 +61,7 @@ fn outlive_a_compaction(alloc: Global, room: usize) -> Result<Option<Tape>, Allo
     let Some(Opened { mut journal, .. }) = start(alloc, tape)? else {
         return Ok(None);
     };
-    let from = journal.log.past.len();
+    let from = journal.log.past().len();
     let is_compacted = matches!(journal.compact(), Ok(None));
     if is_compacted != (room >= LENGTHS[0]) {
         return Ok(None);
@@ -88,7 +88,7 @@ fn outlive_batches(alloc: Global, room: usize) -> Result<bool, AllocError> {
         return Ok(false);
     };
     for (at, batch) in batches_of(alloc, MORE)?.iter().enumerate() {
-        let from = tape.past.len();
+        let from = tape.past().len();
         let Some(kept) = keep(alloc, tape, from_ref(batch))? else {
             return Ok(false);
         };

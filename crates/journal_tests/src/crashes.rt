@@ -2,12 +2,12 @@
 
 use crate::maps::machine;
 use crate::records::recorded_batches;
-use crate::tape::Tape;
 use journal::{JournalName, push_header, push_record};
 use journalfile::{Journal, Recovered, recover};
 use std::alloc::{AllocError, Global};
 use std::slice::from_ref;
 use std::test::Fail;
+use test_logs::Tape;
 
 const JOURNAL: JournalName = JournalName {
     fingerprint: [7; 32],
@@ -55,7 +55,8 @@ fn are_first(alloc: Global, bytes: &[u8], count: u64) -> bool {
 fn keep(alloc: Global, tape: Tape, batches: &[Vec<u8>]) -> Result<(Tape, bool), AllocError> {
     let mut tape = tape;
     let mut machine = machine(alloc, NAME)?;
-    let Ok(Recovered { count, .. }) = recover(alloc, &JOURNAL, &mut tape, &mut machine) else {
+    let Ok(Recovered { count, length, .. }) = recover(alloc, &JOURNAL, &mut tape, &mut machine)
+    else {
         return Ok((tape, false));
     };
     if count > 9 || batches.len() > 9 {
@@ -66,7 +67,7 @@ fn keep(alloc: Global, tape: Tape, batches: &[Vec<u8>]) -> Result<(Tape, bool), 
         log: tape,
         name: JOURNAL,
         count,
-        length: 0,
+        length: length as u64,
     };
     let is_kept = journal.put(batches).is_ok();
     Ok((journal.log, is_kept))

@@ -1,7 +1,6 @@
 // Bytes that were worked by another program: Python's `hashlib` gave the digests.
 
 use crate::starts::{PLAIN, compacted, found, keep};
-use crate::tape::Tape;
 use crate::written::{batches_of, journal_of};
 use journal::{
     Compaction, HeaderFault, JournalName, UsedFile, after_header, decode, fingerprint_of,
@@ -9,6 +8,7 @@ use journal::{
 };
 use std::alloc::AllocError;
 use std::test::Fail;
+use test_logs::Tape;
 
 // SHA-256 of 8, `MAP LF END LF`, 9, `roads.csv`, a 1, 8, `x,y LF 1,2 LF`, 5, `a.bdf` and a 0, each number of a length in 8 bytes.
 const FINGERPRINT: [u8; 32] = [

@@ -2,12 +2,12 @@
 
 use crate::maps::two_layers;
 use crate::starts::{FINGERPRINT, PLAIN, compacted, found};
-use crate::tape::Tape;
 use crate::written::journal_of;
 use journal::{Compaction, HeaderFault, JournalName};
 use journalfile::{RecoverFault, read_name, recover};
 use std::alloc::{AllocError, Global};
 use std::test::Fail;
+use test_logs::Tape;
 
 const NO_JOURNAL: &str = "the file is not a journal";
 

@@ -1,11 +1,5 @@
-//! Tests of journals, by their public calls alone, and a log in memory that stops at any byte.
-//!
-//! `Tape` is proved to be a reliable log, so that there is one. It is outside of `cfg(test)`, since its proofs are.
+//! Tests of journals, by their public calls alone, on the tapes of `test_logs`.
 #![tactic(auto)]
-
-mod tape;
-
-pub use tape::{Tape, TapeFailed};
 
 #[cfg(test)]
 mod accepting;

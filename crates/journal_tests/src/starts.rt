@@ -5,13 +5,13 @@ ghost use Rattle.journal.specs.Name.{IsBounded};
 ghost use Rattle.journalfile.specs.Settled.{IsSettled};
 
 use crate::maps::{shown, two_layers};
-use crate::tape::Tape;
 use journal::{Compaction, JournalName};
 use journalfile::{Checkpoint, CompactedJournal, Journal, Log, Recovered, read_name, recover};
 use keepers::Keeps;
 use mapmachine::Machine;
 use std::alloc::{AllocError, Global};
 use std::slice::from_ref;
+use test_logs::Tape;
 
 /// The fingerprint of the map.
 pub const FINGERPRINT: [u8; 32] = [7; 32];

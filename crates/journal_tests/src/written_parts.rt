@@ -3,11 +3,11 @@
 use crate::compacted::{LEFT, MORE};
 use crate::maps::two_layers;
 use crate::starts::{FINGERPRINT, compacted};
-use crate::tape::Tape;
 use crate::written::journal_of;
 use journalfile::{RecoverFault, Recovered, read_name, recover};
 use std::alloc::{AllocError, Global};
 use std::test::Fail;
+use test_logs::Tape;
 
 // How a start on some bytes ends: how many batches it finds and how many bytes it cuts off, or after which record it finds damage.
 fn ended(alloc: Global, bytes: &[u8]) -> Result<String, AllocError> {

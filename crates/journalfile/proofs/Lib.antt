@@ -1,4 +1,5 @@
 pub mod Elapsing
+pub mod Lengths
 pub mod Pieces
 pub mod Searching
 pub mod Standing

@@ -1,5 +1,5 @@
 -- A journal and its successor.
-use Rattle.std.proofs.Common.{◌≡◌, ◌⊎◌, inl, inr, ⊎_elim, ℕ, ◌+◌, ◌≤◌, Option, None, Some, List, ◌++◌, length, refl, sym, ◌∙◌, ap, subst}
+use Rattle.std.proofs.Common.{◌≡◌, ◌⊎◌, inl, inr, ⊎_elim, ℕ, ◌+◌, ◌-◌, ◌^◌, ◌≤◌, min, Option, None, Some, List, ◌++◌, length, refl, sym, ◌∙◌, ap, subst}
 use mathlib.Core.List.{IsPrefix}
 use Rattle.batches.specs.Batch.{accepted}
 use Rattle.compaction.specs.Compacted.{compacted, skipping}
@@ -53,12 +53,13 @@ module _ {L : Type 0} (content : L → List ℕ) (may_leave : L → List ℕ →
 
   -- a journal whose log has its bytes, and is as settled as it was, is settled with the same batches
   pub still_settled : (old new : Journal L) (own : List (List ℕ)) → IsSettled content may_leave old own → content new.log ≡ content old.log → NoOther (may_leave old.log) (may_leave new.log)
-      → new.name ≡ old.name → new.count ≡ old.count → IsSettled content may_leave new own
-  still_settled old new own settled same crash named counted = record {
+      → new.name ≡ old.name → new.count ≡ old.count → new.length ≡ old.length → IsSettled content may_leave new own
+  still_settled old new own settled same crash named counted long = record {
     file = same ∙ settled.file ∙ ap (λ n. journal_of sha256 (name_bytes n) own) (sym named);
     count = counted ∙ settled.count;
     enough = subst (λ n. written_of n.compaction ≤ length own) (sym named) settled.enough;
     durable = λ f left. settled.durable f (crash f left) ∙ sym same;
+    noted = long ∙ settled.noted ∙ ap (λ (l : List ℕ). min (length l) (2 ^ 64 - 1)) (sym same);
   }
 
   -- both have the batches that the journal had

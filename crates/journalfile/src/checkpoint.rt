@@ -11,7 +11,7 @@ ghost use Rattle.journalfile.specs.Frames.{IsRead};
 ghost use Rattle.journalfile.specs.Keeping.{FileHas, JournalHas};
 ghost use Rattle.keepers.specs.Crashes.{LeavesOnly};
 ghost use Rattle.journalfile.specs.Log.{Only};
-ghost use Rattle.journalfile.specs.Settled.{IsSettled};
+ghost use Rattle.journalfile.specs.Settled.{IsSettled, NotesLength};
 
 use crate::compacting::{count_left, last_changes, write_left};
 use crate::log::Log;
@@ -34,11 +34,12 @@ pub struct Checkpoint {
 fn beside<L: Replaceable>(journal: &mut Journal<L>, left: u64) -> Result<Journal<L>, NotCompacted>
     requires fewer { left ≤ journal.old.count }
     ensures empty { L.reliable → IfOk result (λ successor. L.content successor.log ≡ []) }
+    ensures noted { L.reliable → IfOk result (NotesLength L.content) }
     ensures count { IfOk result (λ successor. successor.count ≡ 0) }
     ensures named { IfOk result (λ successor. successor.name ≡ journal_name journal.old.name.fingerprint
         (Some (record { skipped = skipped_of journal.old.name.compaction + (journal.old.count - left); written = left }))) }
     ensures bounded { IfOk result (λ successor. IsBounded successor.name.compaction) }
-    ensures same { (journal.new.name ≡ journal.old.name) × (journal.new.count ≡ journal.old.count) }
+    ensures same { (journal.new.name ≡ journal.old.name) × (journal.new.count ≡ journal.old.count) × (journal.new.length ≡ journal.old.length) }
     ensures read { L.reliable → IsRead L.content L.may_leave L.moment L.left_since journal.old.log journal.new.log }
 {
     let out = journal.count - left;
@@ -72,6 +73,7 @@ fn write_synced<L: Log>(
     successor: &mut Journal<L>,
 ) -> Result<(), NotCompacted>
     requires empty { successor.old.count ≡ 0 }
+    requires noted { L.reliable → NotesLength L.content successor.old }
     ensures settled { L.reliable → L.content successor.old.log ≡ [] → OnOk result ((all : List (List ℕ))
         → L.content log.old ≡ journal_of sha256 (name_bytes records.name) all → records.count ≡ length all → AreLast changes.now (commands_of all)
         → written_of successor.old.name.compaction ≤ length (compacted all)
@@ -94,7 +96,7 @@ fn successor_of<L: Replaceable>(journal: &mut Journal<L>) -> Result<Journal<L>, 
     ensures synced { L.reliable → IfOk result (λ successor. Only (L.content successor.log) (L.may_leave successor.log)) }
     ensures of_map { IfOk result (λ successor. successor.name.fingerprint ≡ journal.old.name.fingerprint) }
     ensures bounded { IfOk result (λ successor. IsBounded successor.name.compaction) }
-    ensures same { (journal.new.name ≡ journal.old.name) × (journal.new.count ≡ journal.old.count) }
+    ensures same { (journal.new.name ≡ journal.old.name) × (journal.new.count ≡ journal.old.count) × (journal.new.length ≡ journal.old.length) }
     ensures read { L.reliable → IsRead L.content L.may_leave L.moment L.left_since journal.old.log journal.new.log }
 {
     let records = Records {

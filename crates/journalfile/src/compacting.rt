@@ -7,6 +7,7 @@ ghost use Rattle.compaction.specs.LastChanges.{AreLast};
 ghost use Rattle.journal.specs.Name.{name_bytes};
 ghost use Rattle.journal.specs.Record.{header, journal_of, record_of, sequence_bytes};
 ghost use Rattle.journalfile.specs.Frames.{IsRead};
+ghost use Rattle.journalfile.specs.Settled.{NotesLength};
 
 use crate::log::Log;
 use crate::reading::{NotCompacted, Reader, Records};
@@ -57,6 +58,7 @@ pub(crate) fn count_left<L: Log>(
 // Adds bytes to the log of a journal that isn't synced yet.
 fn append<L: Log>(journal: &mut Journal<L>, bytes: &[u8]) -> Result<(), NotCompacted>
     ensures appended { L.reliable → OnOk result (L.content journal.new.log ≡ L.content journal.old.log ++ bytes.now) }
+    ensures noted { L.reliable → OnOk result (NotesLength L.content journal.old → NotesLength L.content journal.new) }
     ensures name { journal.new.name ≡ journal.old.name }
     ensures count { journal.new.count ≡ journal.old.count }
 {
@@ -70,6 +72,7 @@ fn append<L: Log>(journal: &mut Journal<L>, bytes: &[u8]) -> Result<(), NotCompa
 // Adds the header to a journal without bytes.
 fn add_header<L: Log>(journal: &mut Journal<L>) -> Result<(), NotCompacted>
     ensures added { L.reliable → OnOk result (L.content journal.new.log ≡ L.content journal.old.log ++ header sha256 (name_bytes journal.old.name)) }
+    ensures noted { L.reliable → OnOk result (NotesLength L.content journal.old → NotesLength L.content journal.new) }
     ensures name { journal.new.name ≡ journal.old.name }
     ensures count { journal.new.count ≡ journal.old.count }
 {
@@ -82,6 +85,7 @@ fn add_header<L: Log>(journal: &mut Journal<L>) -> Result<(), NotCompacted>
 fn add_batch<L: Log>(journal: &mut Journal<L>, batch: &[u8]) -> Result<(), NotCompacted>
     ensures added { L.reliable → OnOk result (L.content journal.new.log
         ≡ L.content journal.old.log ++ record_of sha256 (name_bytes journal.old.name) (sequence_bytes (journal.old.count + 1)) batch.now) }
+    ensures noted { L.reliable → OnOk result (NotesLength L.content journal.old → NotesLength L.content journal.new) }
     ensures count { OnOk result (journal.new.count ≡ journal.old.count + 1) }
     ensures name { journal.new.name ≡ journal.old.name }
 {
@@ -108,6 +112,7 @@ pub(crate) fn write_left<L: Log>(
         → L.content log.old ≡ journal_of sha256 (name_bytes records.name) all → records.count ≡ length all → AreLast changes.now (commands_of all)
         → (L.content successor.new.log ≡ journal_of sha256 (name_bytes successor.old.name) (compacted all))
         × (successor.new.count ≡ length (compacted all))) }
+    ensures noted { L.reliable → OnOk result (NotesLength L.content successor.old → NotesLength L.content successor.new) }
     ensures name { successor.new.name ≡ successor.old.name }
     ensures read { L.reliable → IsRead L.content L.may_leave L.moment L.left_since log.old log.new }
 {

@@ -2,22 +2,24 @@
 use Rattle.std.specs.Prelude.{◌≡◌, ◌⊎◌, ◌++◌, ℕ, Bool, true, false, List, Option, IfSome, Ok, Err, MatchResult, codes}
 use Rattle.console.specs.Console.{Outcome, WriterState, IsWritten}
 use Rattle.console.specs.declared.failure.Failure.{Failure}
-use Rattle.console.specs.declared.failure.Failure.TheVariants.{ListenFailed, SocketFailed, WatchFailed, JournalFailed, NoMemory}
+use Rattle.console.specs.declared.failure.Failure.TheVariants.{SocketFailed, WatchFailed, JournalFailed, NoMemory}
 
--- why there is no service, or it ended early: a port, a thread, the input with whose end it ends, or the keeper of batches failed, or memory was
--- refused
+-- what a service lacks that doesn't begin: a port gives no address or no connections, a thread can't be started, or memory was refused
+abbrev pub is_resource_failure : Failure → Bool
+is_resource_failure SocketFailed = true
+is_resource_failure NoMemory = true
+is_resource_failure failure = false
+
+-- why a service ended early that had begun: it lacks one of these, or the input with whose end it ends, or the keeper of batches failed
 abbrev pub is_service_failure : Failure → Bool
-is_service_failure (ListenFailed port cause) = true
-is_service_failure SocketFailed = true
 is_service_failure WatchFailed = true
 is_service_failure JournalFailed = true
-is_service_failure NoMemory = true
-is_service_failure failure = false
+is_service_failure failure = is_resource_failure failure
 
--- an outcome is such a failure
-abbrev pub fails_service : Outcome → Bool
-fails_service (Ok done) = false
-fails_service (Err failure) = is_service_failure failure
+-- an outcome is that something is lacking
+abbrev pub lacks_resources : Outcome → Bool
+lacks_resources (Ok done) = false
+lacks_resources (Err failure) = is_resource_failure failure
 
 -- the line with the addresses of the ports of a service, that of clients first
 abbrev pub addresses_line : List ℕ → List ℕ → List ℕ
@@ -34,10 +36,10 @@ HasWrittenAddresses outcome clients administration old new =
 
 -- nothing was written, because a port's address, a port, a thread or memory is missing
 abbrev pub IsUnserved : Outcome → WriterState → WriterState → Type 0
-IsUnserved outcome old new = (fails_service outcome ≡ true) × (new ≡ old)
+IsUnserved outcome old new = (lacks_resources outcome ≡ true) × (new ≡ old)
 
--- how it ended after the addresses were written: well, or because a port, a thread or memory is missing; never because of the mapfile or an argument.
--- Where writing the addresses failed, it ended with that failure
+-- how it ended after the addresses were written: well, or because a port, a thread or memory is missing, its input failed, or the keeper of batches;
+-- never because of the mapfile, an argument, or a port that can't be listened on. Where writing the addresses failed, it ended with that failure
 abbrev pub GoesOnAfter : Outcome → Outcome → Type 0
 GoesOnAfter (Ok done) outcome = MatchResult outcome (λ _. Unit {0}) (λ failure. is_service_failure failure ≡ true)
 GoesOnAfter (Err failure) outcome = outcome ≡ Err failure

@@ -1,6 +1,6 @@
 ghost use Rattle.std.specs.Prelude.{◌≡◌, IfErr, IfOk, IfSome, true};
 ghost use Rattle.console.specs.Console.{IsWritten};
-ghost use Rattle.network.specs.Announcing.{AreAddresses, addresses_line, is_service_failure};
+ghost use Rattle.network.specs.Announcing.{AreAddresses, addresses_line, is_resource_failure};
 
 use crate::port::{AddressFault, Port};
 use crate::ports::Ports;
@@ -12,7 +12,7 @@ use streams::Sink;
 // The address of a port.
 fn address_of<C, P: Port<C>>(alloc: Global, port: &P) -> Result<Text, Failure>
     ensures address { IfOk result (λ text. IfSome (P.address port.now) (λ known. text ≡ known)) }
-    ensures unknown { IfErr result (λ failure. is_service_failure failure ≡ true) }
+    ensures failed { IfErr result (λ failure. is_resource_failure failure ≡ true) }
 {
     match port.address(alloc) {
         Ok(address) => Ok(address),
@@ -39,7 +39,7 @@ impl Addresses {
         ensures addresses { IfOk result
             (λ addresses. AreAddresses (P.address ports.now.clients.port)
             (P.address ports.now.administration.port) addresses.clients addresses.administration) }
-        ensures unknown { IfErr result (λ failure. is_service_failure failure ≡ true) }
+        ensures failed { IfErr result (λ failure. is_resource_failure failure ≡ true) }
     {
         Ok(Addresses {
             clients: address_of(alloc, &ports.clients)?,

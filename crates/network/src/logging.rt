@@ -1,7 +1,7 @@
 //! The log of a service: the thread that writes it, and the poller of connections that are logged.
 
 ghost use Rattle.std.specs.Prelude.{◌≡◌, ◌≤◌, IfErr, length, true};
-ghost use Rattle.network.specs.Announcing.{is_service_failure};
+ghost use Rattle.network.specs.Announcing.{is_resource_failure};
 
 use crate::ports::Runtime;
 use accesslog::{LogQueue, LoggedTransport};
@@ -91,7 +91,7 @@ pub struct Log<R> {
 impl<R: Runtime> Log<R> {
     /// Starts the thread of a log.
     pub fn start(rt: &R) -> Result<Self, Failure>
-        ensures failed { IfErr result (λ failure. is_service_failure failure ≡ true) }
+        ensures failed { IfErr result (λ failure. is_resource_failure failure ≡ true) }
     {
         let Some(queue) = LogQueue::new(rt, rt.alloc()) else {
             return Err(Failure::NoMemory);
@@ -115,7 +115,7 @@ impl<R: Runtime> Log<R> {
 
     /// Its queue, for another thread.
     pub fn queue(&self) -> Result<LogQueue<R>, Failure>
-        ensures failed { IfErr result (λ failure. is_service_failure failure ≡ true) }
+        ensures failed { IfErr result (λ failure. is_resource_failure failure ≡ true) }
     {
         match self.queue.share() {
             Ok(queue) => Ok(queue),
@@ -164,7 +164,7 @@ impl<R> Logs<R> {
 
 /// Starts a log for both.
 pub fn start_log<R: Runtime>(rt: &R) -> Result<(Log<R>, Logs<R>), Failure>
-    ensures failed { IfErr result (λ failure. is_service_failure failure ≡ true) }
+    ensures failed { IfErr result (λ failure. is_resource_failure failure ≡ true) }
 {
     let log = Log::start(rt)?;
     match (log.queue(), log.queue()) {

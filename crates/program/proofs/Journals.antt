@@ -1,4 +1,4 @@
--- Why a journal isn't opened, without the log's own failure.
+-- Journals as they are opened and kept.
 use Rattle.std.proofs.lemmas.Bool.Decides.{nat_tests}
 use Rattle.std.proofs.Common.{⊎_elim, inl, inr, ap, arith, subst, sym, ◌∙◌, ◌≡◌, ◌≢◌, ◌&&◌, ◌==◌, refl, ℕ, zero, suc, Bool, true, false, not, List, ◌++◌, Option, None, Some}
 use Rattle.std.specs.Prelude.{MatchBool}
@@ -12,48 +12,28 @@ use Rattle.batches.specs.Batch.{State}
 use Rattle.journal.specs.Name.{IsBounded, skipped_of}
 use Rattle.journal.specs.declared.header.HeaderFault.TheVariants as header_fault
 use Rattle.journal.specs.declared.name.JournalName.{JournalName}
-use Rattle.journalfile.specs.Recovery.{IsFaultOf, IsNameFault}
+use Rattle.journalfile.specs.Recovery.{IsFaultOf}
 use Rattle.journalfile.specs.declared.recovery.RecoverFault.{RecoverFault}
 use Rattle.journalfile.specs.declared.recovery.RecoverFault.TheVariants as recover_fault
 use Rattle.journalfile.specs.Settled.{IsSettled}
 use Rattle.journalfile.specs.declared.checkpoint.CompactedJournal.{CompactedJournal}
 use Rattle.console.specs.Console.{Outcome, WriterState}
-use Rattle.service.specs.Serving.{NamesCause, ServedValue}
-use Rattle.program.specs.Journals.{JournalView, KeepsAll, KeepsState, erased, fault_of}
+use Rattle.service.specs.Serving.{ServedValue}
+use Rattle.program.specs.Journals.{JournalView, KeepsAll, KeepsState}
 use Rattle.program.specs.Endings.{EndingValue, unserved}
 use Rattle.program.specs.Performing.{Begun, HostView, IsServed, ServesNothing}
 
--- the fault is that of the recovery without its failure
-pub erased-fault : {F : Type 0} (cause : RecoverFault F) → fault_of cause ≡ fault_of (erased cause)
-erased-fault (recover_fault.Header header_fault.NotAJournal) = refl
-erased-fault (recover_fault.Header header_fault.EarlierForm) = refl
-erased-fault (recover_fault.Header header_fault.Damaged) = refl
-erased-fault (recover_fault.Header header_fault.OtherMap) = refl
-erased-fault (recover_fault.Damaged number) = refl
-erased-fault (recover_fault.Refused number) = refl
-erased-fault recover_fault.NoMemory = refl
-erased-fault (recover_fault.Failed failure) = refl
-
--- and so are the conditions for it, where the bytes before are those of another log
-pub erased-is : {F L : Type 0} (name : JournalName) (content : L → List ℕ) (given old new : L) (first : State) (cause : RecoverFault F) → content old ≡ content given
-    → IsFaultOf name content old new first cause → IsFaultOf name content given new first (erased cause)
-erased-is name content given old new first (recover_fault.Header header_fault.NotAJournal) same is = rw same at is
-erased-is name content given old new first (recover_fault.Header header_fault.EarlierForm) same is = rw same at is
-erased-is name content given old new first (recover_fault.Header header_fault.Damaged) same is = rw same at is
-erased-is name content given old new first (recover_fault.Header header_fault.OtherMap) same is = rw same at is
-erased-is name content given old new first (recover_fault.Damaged number) same is = rw same at is
-erased-is name content given old new first (recover_fault.Refused number) same is = rw same at is
-erased-is name content given old new first recover_fault.NoMemory same is = is ∙ same
-erased-is name content given old new first (recover_fault.Failed failure) same is = is
-
--- those for a header that isn't read
-pub erased-name : {F L : Type 0} (fingerprint : List ℕ) (content : L → List ℕ) (old new : L) (cause : RecoverFault F)
-    → IsNameFault fingerprint content old new cause → IsNameFault fingerprint content old new (erased cause)
-erased-name fingerprint content old new (recover_fault.Header fault) is = is
-erased-name fingerprint content old new (recover_fault.Damaged number) is = is
-erased-name fingerprint content old new (recover_fault.Refused number) is = is
-erased-name fingerprint content old new recover_fault.NoMemory is = is
-erased-name fingerprint content old new (recover_fault.Failed failure) is = is
+-- the conditions for a fault, where the bytes before are those of another log
+pub fault-of-given : {F L : Type 0} (name : JournalName) (content : L → List ℕ) (given old new : L) (first : State) (cause : RecoverFault F) → content old ≡ content given
+    → IsFaultOf name content old new first cause → IsFaultOf name content given new first cause
+fault-of-given name content given old new first (recover_fault.Header header_fault.NotAJournal) same is = rw same at is
+fault-of-given name content given old new first (recover_fault.Header header_fault.EarlierForm) same is = rw same at is
+fault-of-given name content given old new first (recover_fault.Header header_fault.Damaged) same is = rw same at is
+fault-of-given name content given old new first (recover_fault.Header header_fault.OtherMap) same is = rw same at is
+fault-of-given name content given old new first (recover_fault.Damaged number) same is = rw same at is
+fault-of-given name content given old new first (recover_fault.Refused number) same is = rw same at is
+fault-of-given name content given old new first recover_fault.NoMemory same is = is ∙ same
+fault-of-given name content given old new first (recover_fault.Failed failure) same is = is
 
 -- what is told of a cut that is requested and isn't empty
 pub told : (requested : Bool) (cut : ℕ) (P Q : Type 0) → requested ≡ true → cut ≢ 0 → P → MatchBool (requested && not (cut == 0)) P Q
@@ -98,25 +78,19 @@ module _ {L : Type 0} (view : JournalView L) (recognises : Type 0) where
   pub state-of : (keeper : CompactedJournal L) (batches : List (List ℕ)) → keeps-state keeper batches → KeepsState view keeper batches
   state-of keeper batches kept = λ reliable. (kept reliable).1
 
--- a cause that is named stays one, where more calls fail
-names-alike : (some more : LogCause → Type 0) → ((cause : LogCause) → some cause → more cause) → (found : Option LogCause) → NamesCause some found → NamesCause more found
-names-alike some more in_more None is = tt
-names-alike some more in_more (Some cause) is = ⊎_elim (λ w. inl (in_more cause w)) (λ w. inr w) is
-
 -- a keeper that keeps all of some batches, since another meaning of keeping them is enough, was served alike
-pub served-alike : {P L K : Type 0} (host : HostView P L) (known : Keeps K) (keeps : K → List (List ℕ) → Type 0) (fails : LogCause → Type 0) (begun : Begun K) (served : ServedValue P K) (old new : WriterState)
+pub served-alike : {P L K : Type 0} (host : HostView P L) (known : Keeps K) (keeps : K → List (List ℕ) → Type 0) (begun : Begun K) (served : ServedValue P K) (old new : WriterState)
     → ((batches : List (List ℕ)) → keeps begun.keeper batches → known.keeps begun.keeper batches)
     → ((batches : List (List ℕ)) → known.keeps served.last batches → keeps served.last batches)
-    → ((cause : LogCause) → known.fails cause → fails cause)
-    → IsServed host known begun served old new → IsServed host (record known { keeps = keeps; fails = fails }) begun served old new
-served-alike host known keeps fails begun served old new before later failed is = record {
+    → IsServed host known begun served old new → IsServed host (record known { keeps = keeps }) begun served old new
+served-alike host known keeps begun served old new before later is = record {
   began = is.began;
   listens = is.listens;
   listens_too = is.listens_too;
   took = is.took;
   kept = λ ends batches has. later (batches ++ served.accepted) (is.kept ends batches (before batches has));
   crash = λ reliable batches has. is.crash reliable batches (before batches has);
-  failed = names-alike known.fails fails failed served.cause is.failed;
+  failed = is.failed;
   answered = is.answered;
   announced = is.announced;
 }

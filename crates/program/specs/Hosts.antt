@@ -21,3 +21,7 @@ abbrev pub cause_of : ErrorKind → UnreadCause
 cause_of NotFound = Missing
 cause_of PermissionDenied = NotAllowed
 cause_of kind = Other
+
+-- a file can't be read for this cause: its host has such an error for it
+abbrev pub IsWithheld : (ErrorKind → Type 0) → UnreadCause → Type 0
+IsWithheld withholds cause = (kind : ErrorKind) × withholds kind × (cause ≡ cause_of kind)

@@ -35,28 +35,36 @@ use Rattle.program.specs.declared.keeping.JournalFault.TheVariants as fault
 use Rattle.program.specs.declared.host.OpenFault.{OpenFault}
 use Rattle.program.specs.declared.host.OpenFault.TheVariants as log_fault
 
--- the known properties of the journals of a host: which logs it gives for a path, whether they are reliable, their bytes, the bytes that a crash
--- may leave of them now, the moment, and the bytes that one may have left since; and the failures of their calls
+-- the known properties of the journals of a host: which logs it gives for a path, and for which causes none; whether they are reliable, their bytes, the
+-- bytes that a crash may leave of them now, the moment, and the bytes that one may have left since; and the failures of their calls with their causes
 pub record JournalView (L : Type 0) : Type 1 where
   pub gives : List ℕ → L → Type 0
+  pub unopened : List ℕ → OpenFault → Type 0
   pub reliable : Type 0
   pub content : L → List ℕ
   pub may_leave : L → List ℕ → Type 0
   pub moment : L → ℕ
   pub left_since : L → ℕ → List ℕ → Type 0
   pub Failure : Type 0
+  pub cause_of : Failure → LogCause
 
 -- those of a host, by the logs that it gives and what these say
-abbrev pub journal_view : {H L F : Type 0} → (H → List ℕ → L → Type 0) → Log L F → H → JournalView L
-journal_view {H} {L} {F} journal log h = record {
+abbrev pub journal_view : {H L F : Type 0} → (H → List ℕ → L → Type 0) → (H → List ℕ → OpenFault → Type 0) → Log L F → (F → LogCause) → H → JournalView L
+journal_view {H} {L} {F} journal unopened log cause_of h = record {
   gives = journal h;
+  unopened = unopened h;
   reliable = log.reliable;
   content = log.content;
   may_leave = log.may_leave;
   moment = log.moment;
   left_since = log.left_since;
   Failure = F;
+  cause_of = cause_of;
 }
+
+-- a call of a log failed for this cause
+abbrev pub HasFailed : {L : Type 0} → JournalView L → LogCause → Type 0
+HasFailed view cause = (failure : view.Failure) × (view.cause_of failure ≡ cause)
 
 -- a journal has these batches, where its log is reliable; without a journal nothing is required
 abbrev pub KeepsAll : {L : Type 0} → JournalView L → Option (Journal L) → List (List ℕ) → Type 0
@@ -75,7 +83,7 @@ whole_keeper view = record {
   moment = moment_of (λ journal. view.moment journal.log);
   left_since = left_since_of (λ journal. view.left_since journal.log);
   stands = stands_of (λ journal. StandsFor journal.name);
-  fails = λ cause. view.Failure;
+  fails = HasFailed view;
 }
 
 -- the same of one that is compacted
@@ -86,7 +94,7 @@ compacted_keeper view = record {
   moment = λ compacted. view.moment compacted.journal.log;
   left_since = λ compacted. view.left_since compacted.journal.log;
   stands = λ compacted. FileHas compacted.journal.name.fingerprint;
-  fails = λ cause. view.Failure;
+  fails = HasFailed view;
 }
 
 -- the part of a digest for a file that a mapfile uses: its name and its bytes
@@ -96,14 +104,6 @@ given_message file = sized file.name ++ content_message (Some file.bytes)
 -- the fingerprint of a map: the digest of its mapfile and of the files that it uses
 abbrev pub map_fingerprint : List ℕ → List FileBytes → List ℕ
 map_fingerprint mapfile files = sha256 (sized mapfile ++ flat_map given_message files)
-
--- the fault of a recovery, without the log's own failure
-abbrev pub erased : {F : Type 0} → RecoverFault F → RecoverFault (Unit {0})
-erased (recover_fault.Header cause) = recover_fault.Header cause
-erased (recover_fault.Damaged number) = recover_fault.Damaged number
-erased (recover_fault.Refused number) = recover_fault.Refused number
-erased recover_fault.NoMemory = recover_fault.NoMemory
-erased (recover_fault.Failed cause) = recover_fault.Failed tt
 
 -- why a journal isn't opened, by the fault of its recovery
 abbrev pub fault_of : {F : Type 0} → RecoverFault F → JournalFault
@@ -161,9 +161,8 @@ abbrev pub journal_fault : List ℕ → Bool → JournalFault → List ℕ
 journal_fault path explains why = codes "fault journal " ++ (path ++ (codes ": " ++ (fault_message why ++ (number_text why ++ (fault_more why explains ++ codes "\n")))))
 
 -- a host gave no log for a path, or memory was refused
-abbrev pub is_unopened : JournalFault → Type 0
-is_unopened (fault.Log cause) = Unit {0}
-is_unopened other = ⊥
+abbrev pub IsWithoutLog : {L : Type 0} → JournalView L → List ℕ → JournalFault → Type 0
+IsWithoutLog view path why = ((cause : OpenFault) × (why ≡ fault.Log cause) × view.unopened path cause) ⊎ (why ≡ fault.Log log_fault.NoMemory)
 
 -- when a journal is compacted as it is served: from this many megabytes on
 abbrev pub checkpoint_of : ℕ → Checkpoint
@@ -184,21 +183,21 @@ module _ {L : Type 0} (view : JournalView L) (path fingerprint : List ℕ) (firs
     pub shorter : view.reliable → length (view.content log) ≡ length (view.content journal.log) + cut
 
   -- the header of a log names a journal of the map, which isn't opened
-  pub record IsOpenFault (old new : L) (cause : RecoverFault (Unit {0})) : Type 0 where
+  pub record IsOpenFault (old new : L) (cause : RecoverFault view.Failure) : Type 0 where
     pub name : JournalName
     pub of_map : name.fingerprint ≡ fingerprint
     pub named : StartsWith (header sha256 (name_bytes name)) (view.content old)
     pub fault : IsFaultOf name view.content old new (skipping (skipped_of name.compaction) first) cause
 
   -- the bytes of a log have a fault: their header isn't that of a journal of the map, or the journal that it names isn't opened
-  abbrev pub IsFaulty : L → L → RecoverFault (Unit {0}) → Type 0
+  abbrev pub IsFaulty : L → L → RecoverFault view.Failure → Type 0
   IsFaulty old new cause = IsNameFault fingerprint view.content old new cause ⊎ IsOpenFault old new cause
 
-  -- why none was opened: the host gave no log, or the bytes of the log have a fault
+  -- why none was opened: the host gave no log, memory was refused, a call of the log failed, or its bytes have a fault
   abbrev pub IsUnopened : JournalFault → Type 0
   IsUnopened why =
-      is_unopened why
-      ⊎ ((log new : L) × view.gives path log × (cause : RecoverFault (Unit {0})) × (why ≡ fault_of cause) × (view.reliable → IsFaulty log new cause))
+      IsWithoutLog view path why
+      ⊎ ((log new : L) × view.gives path log × (cause : RecoverFault view.Failure) × (why ≡ fault_of cause) × (view.reliable → IsFaulty log new cause))
 
 -- the line on a torn tail that was cut off, with the path of the journal and the length of the tail
 abbrev pub cut_line : List ℕ → ℕ → List ℕ

@@ -1,5 +1,5 @@
 -- The effects of the program for a command on a host (docs/SERVICE.md, "The program").
-use Rattle.std.specs.Prelude.{◌≡◌, ◌⊎◌, ◌<◌, ◌≤◌, ◌||◌, ◌==◌, ◌++◌, ℕ, Bool, MatchBool, MatchOption, List, [], Option, None, Some, IsSome, IfErr, option_map, Err}
+use Rattle.std.specs.Prelude.{◌≡◌, ◌⊎◌, ◌<◌, ◌≤◌, ◌||◌, ◌==◌, ◌++◌, ℕ, Bool, MatchBool, MatchOption, MatchResult, true, List, [], Option, None, Some, IsSome, option_map, Err}
 use Rattle.std.specs.Io.KnownBytes.{Keeps}
 use Rattle.commandline.specs.declared.subcommand.Command.{Command}
 use Rattle.commandline.specs.declared.subcommand.Service.{Service}
@@ -15,27 +15,28 @@ use Rattle.journalfile.specs.declared.writing.Journal.{Journal}
 use Rattle.sharing.specs.Sharing.{after}
 use Rattle.mapdefs.specs.declared.map.MapFields.{MapFields}
 use Rattle.mapparse.specs.declared.files.FileBytes.{FileBytes}
-use Rattle.journalfile.specs.declared.log.Log.{Ghosts as Log}
 use Rattle.program.specs.declared.host.Files.{Ghosts as Files}
 use Rattle.network.specs.declared.port.Port.{Ghosts as Port}
-use Rattle.program.specs.Journals.{JournalView, journal_view, KeepsState, compacted_keeper, whole_keeper, checkpoint_of, IsOpened, IsUnopened, ReportsCut, ReportsEnd, failure_of, journal_fault, map_fingerprint}
+use Rattle.program.specs.Journals.{JournalView, HasFailed, KeepsState, compacted_keeper, whole_keeper, checkpoint_of, IsOpened, IsUnopened, ReportsCut, ReportsEnd, failure_of, journal_fault, map_fingerprint}
 use Rattle.program.specs.declared.keeping.JournalFault.{JournalFault}
-use Rattle.network.specs.Announcing.{HasAnnounced, IsUnserved}
+use Rattle.network.specs.Announcing.{HasAnnounced, is_resource_failure}
 use Rattle.subcommands.specs.Folder.{Giving, IsParent}
 use Rattle.subcommands.specs.Mapfiles.{HasReadMapfile, GivesNoMap, ReportsWarnings, ChecksTo, RunsTo}
 use Rattle.subcommands.specs.Session.{PlaysTo, opened}
+use Rattle.subcommands.specs.Reports.{ReadFile}
 use Rattle.subcommands.specs.declared.unread.UnreadCause.{UnreadCause}
 use Rattle.program.specs.Endings.{EndingValue, unserved, unstarted, ended, ended_compacted}
 use Rattle.keepers.specs.declared.keeps.Keeps.{Ghosts as Keeper}
 use Rattle.service.specs.Serving.{LosesNone, NamesCause, ServedValue, WereServed}
 use Rattle.turns.specs.declared.transport.Transport.{Ghosts as Transport}
 use Rattle.journalfile.specs.declared.checkpoint.CompactedJournal.{CompactedJournal}
-use Rattle.program.specs.Hosts.{gives_in}
+use Rattle.program.specs.Hosts.{IsWithheld, gives_in}
 
--- the known properties of a host: the bytes of the file of a path, which ports it gives for a number, or why it gives none, the addresses of ports,
--- journals, and how the clients of a service are served
+-- the known properties of a host: the bytes of the file of a path, or why it can't be read, which ports it gives for a number, or why it gives none, the
+-- addresses of ports, journals, and how the clients of a service are served
 pub record HostView (P L : Type 0) : Type 1 where
   pub file : List ℕ → Option (List ℕ)
+  pub unread_for : List ℕ → UnreadCause → Type 0
   pub listens : ℕ → P → Type 0
   pub refuses : ℕ → ListenCause → Type 0
   pub address : P → Option (List ℕ)
@@ -43,13 +44,14 @@ pub record HostView (P L : Type 0) : Type 1 where
   pub serves : State → Service → Outcome → Type 0
 
 -- those of a host, by the ports and logs that it gives, and what its files, ports, logs and transports say
-abbrev pub host_view : {H F P L C G T : Type 0} → Files H F → (H → ℕ → P → Type 0) → (H → ℕ → ListenCause → Type 0) → (H → List ℕ → L → Type 0) → Port P C → Log L G → Transport T → Type 0 → H → HostView P L
-host_view files listens refuses journal port log transport Poller h = record {
+abbrev pub host_view : {H F P L C T : Type 0} → Files H F → (H → ℕ → P → Type 0) → (H → ℕ → ListenCause → Type 0) → (H → JournalView L) → Port P C → Transport T → Type 0 → H → HostView P L
+host_view files listens refuses journals port transport Poller h = record {
   file = files.file h;
+  unread_for = λ path. IsWithheld (files.withholds h path);
   listens = listens h;
   refuses = refuses h;
   address = port.address;
-  journal = journal_view journal log h;
+  journal = journals h;
   serves = WereServed Poller transport;
 }
 
@@ -62,7 +64,7 @@ pub record Begun (K : Type 0) : Type 0 where
 -- a machine was served as it begins, at the two ports that were listened on. The addresses of the ports were written once, that of clients first. The
 -- machine accepts all batches that were accepted, published or held, one after the other. Unless it ended because the keeper failed, the keeper at the
 -- end keeps the batches of the one at the beginning, and then those, in order. Whatever a crash at any moment leaves stands for the batches of the one at
--- the beginning, and some that are accepted after them. Where it ended because the keeper failed, it did. Its workers answered clients as readers of this map
+-- the beginning, and some that are accepted after them. Its workers answered clients as readers of this map
 pub record IsServed {P L K : Type 0} (host : HostView P L) (known : Keeper K) (begun : Begun K) (served : ServedValue P K) (old new : WriterState) : Type 0 where
   pub began : served ≡ record served { machine = begun.machine; keeper = begun.keeper; service = begun.service }
   pub listens : host.listens begun.service.port served.clients
@@ -70,7 +72,7 @@ pub record IsServed {P L K : Type 0} (host : HostView P L) (known : Keeper K) (b
   pub took : IsSome (after accepted_by begun.machine served.accepted)
   pub kept : (served.outcome ≡ Err JournalFailed → ⊥) → (batches : List (List ℕ)) → known.keeps begun.keeper batches → known.keeps served.last (batches ++ served.accepted)
   pub crash : LosesNone known begun.machine begun.keeper served.last
-  pub failed : NamesCause known.fails served.cause
+  pub failed : NamesCause known.fails served.outcome served.cause
   pub answered : host.serves begun.machine begun.service served.outcome
   pub announced : HasAnnounced (host.address served.clients) (host.address served.administration) served.outcome old new
 
@@ -91,19 +93,19 @@ by_compacted host = record { known = compacted_keeper host.journal; ended = ende
 abbrev pub ServesNothing : {P L : Type 0} → EndingValue P L → Type 0
 ServesNothing ending = ending ≡ unserved ending.outcome
 
--- where a port can't be listened on, it is one of these, with its cause
+-- why nothing was served: a port can't be listened on, one of these for its cause; or one gives no connections, or memory was refused
 abbrev pub NamesPort : (ℕ → ListenCause → Type 0) → Failure → Type 0
-NamesPort these (ListenFailed port cause) = these port cause
-NamesPort these failure = Unit {0}
+NamesPort these failure =
+    (is_resource_failure failure ≡ true) ⊎ ((port : ℕ) × (cause : ListenCause) × (failure ≡ ListenFailed port cause) × these port cause)
 
--- it is one of the two that were requested, which the host refused for that cause
+-- the port is one of the two that were requested, which the host refused for that cause
 abbrev pub NamesItsPort : (ℕ → ListenCause → Type 0) → Service → Failure → Type 0
 NamesItsPort refuses service failure = NamesPort (λ port cause. ((port ≡ service.port) ⊎ (port ≡ service.admin_port)) × refuses port cause) failure
 
--- a machine was served; or a port of it couldn't be listened on, or memory was refused before
+-- a machine was served; or a port of it couldn't be listened on or gave no connections, or memory was refused before, and nothing was written
 abbrev pub ServesMachine : {P L K : Type 0} → HostView P L → (HostView P L → Keeping P L K) → Begun K → EndingValue P L → WriterState → WriterState → Type 0
 ServesMachine {P} {L} {K} host keeping begun ending old new =
-    (ServesNothing ending × IsUnserved ending.outcome old new × IfErr ending.outcome (NamesItsPort host.refuses begun.service))
+    (ServesNothing ending × MatchResult ending.outcome (λ _. ⊥) (NamesItsPort host.refuses begun.service) × (new ≡ old))
     ⊎ ((served : ServedValue P K) × (ending ≡ (keeping host).ended served) × IsServed host (keeping host).known begun served old new)
 
 -- a journal before a service, and as it begins: before it is due, it is as it was. Else it is due at twice its bytes, and has the batches that it had, or
@@ -113,10 +115,10 @@ pub record IsBegun {L : Type 0} (view : JournalView L) (old new : CompactedJourn
   pub next : old.checkpoint.due ≤ old.journal.length → new.checkpoint ≡ next_checkpoint old.checkpoint new.journal.length
   pub has : (batches : List (List ℕ)) → KeepsState view old batches → KeepsState view new batches
 
--- a machine was served with its journal, which was compacted before, where it was due; or the log of the journal failed at that
+-- a machine was served with its journal, which was compacted before, where it was due; or a call of the journal's log failed at that
 abbrev pub ServesCompacted : {P L : Type 0} → HostView P L → Begun (CompactedJournal L) → EndingValue P L → WriterState → WriterState → Type 0
 ServesCompacted {P} {L} host begun ending old new =
-    ((cause : LogCause) × (ending ≡ unstarted cause) × (new ≡ old))
+    ((cause : LogCause) × HasFailed host.journal cause × (ending ≡ unstarted cause) × (new ≡ old))
     ⊎ ((keeper : CompactedJournal L) × IsBegun host.journal begun.keeper keeper
     × ServesMachine host by_compacted (record { machine = begun.machine; keeper = keeper; service = begun.service }) ending old new)
 
@@ -171,9 +173,9 @@ ServesMap host requested read ending written = MatchOption requested.journal
     × (written.later_errors ≡ written.errors))
     (λ path. IsWithoutJournal host path requested.explains read ending written ⊎ IsJournalServed host requested path read ending written)
 
--- a mapfile that is read: its name, the files that it may name, and the rest of its own before and after
+-- a mapfile that is read: its name and the causes for which it may not be read, the files that it may name, and the rest of its own before and after
 pub record MapfileReading : Type 1 where
-  pub name : List ℕ
+  pub file : ReadFile
   pub gives : Giving
   pub before : Option (List ℕ)
   pub after : Option (List ℕ)
@@ -185,7 +187,7 @@ pub record IsMapServed {P L : Type 0} (host : HostView P L) (requested : Request
   pub files : List FileBytes
   pub read : HasReadMapfile reading.gives reading.before reading.after mapfile files map
   pub errors : WriterState
-  pub warnings : ReportsWarnings requested.explains reading.name map old.errors errors
+  pub warnings : ReportsWarnings requested.explains reading.file.name map old.errors errors
   pub serves_map : ServesMap host requested (record { map = map; fingerprint = map_fingerprint mapfile files }) ending
       (record { output = old.output; later_output = new.output; errors = errors; later_errors = new.errors })
 
@@ -194,8 +196,7 @@ pub record IsWithoutMap {P L : Type 0} (explains : Bool) (reading : MapfileReadi
   pub failure : Failure
   pub ends : ending.outcome ≡ Err failure
   pub output : Keeps old.output.held new.output.held
-  pub cause : UnreadCause
-  pub without : GivesNoMap (record { gives = reading.gives; explains = explains }) failure (record { name = reading.name; cause = cause })
+  pub without : GivesNoMap (record { gives = reading.gives; explains = explains }) failure reading.file
       (record { before = reading.before; after = reading.after }) old.errors new.errors
   pub nothing : ServesNothing ending
 
@@ -207,17 +208,21 @@ ServesTo host requested reading ending old new = IsWithoutMap requested.explains
 abbrev pub Left : Type 0
 Left = Option (List ℕ)
 
+-- a file of a host that is read by its path
+abbrev pub file_of : {P L : Type 0} → HostView P L → List ℕ → ReadFile
+file_of host path = record { name = path; unread_for = host.unread_for path }
+
 -- the result of performing a command, by its end. The files that a mapfile names are those of its folder; a session's are those of the current one
 abbrev pub Performs : {P L : Type 0} → HostView P L → Command → EndingValue P L → ConsoleState → ConsoleState → Type 0
 Performs host Session ending old new = PlaysTo (gives_in host.file []) ending.outcome old new × ServesNothing ending
 Performs host (Check name explains) ending old new =
-    ((parent : List ℕ) × IsParent name.now parent × (after : Left) × (cause : UnreadCause)
-    × ChecksTo (record { gives = gives_in host.file parent; explains = explains }) ending.outcome (record { name = name.now; cause = cause })
+    ((parent : List ℕ) × IsParent name.now parent × (after : Left)
+    × ChecksTo (record { gives = gives_in host.file parent; explains = explains }) ending.outcome (file_of host name.now)
     (record { before = host.file name.now; after = after }) old new) × ServesNothing ending
 Performs host (Run name script explains) ending old new =
-    ((parent : List ℕ) × IsParent name.now parent × (after : Left) × (script_after : Left) × (cause : UnreadCause) × (script_cause : UnreadCause)
+    ((parent : List ℕ) × IsParent name.now parent × (after : Left) × (script_after : Left)
     × RunsTo (record { gives = gives_in host.file parent; explains = explains }) ending.outcome
-    (record { mapfile = record { name = name.now; cause = cause }; script = record { name = script.now; cause = script_cause } })
+    (record { mapfile = file_of host name.now; script = file_of host script.now })
     (record {
       mapfile = record { before = host.file name.now; after = after };
       script = record { before = host.file script.now; after = script_after };
@@ -225,4 +230,4 @@ Performs host (Run name script explains) ending old new =
 Performs host (Serve name explains service journal) ending old new =
     (parent : List ℕ) × IsParent name.now parent × (after : Left)
     × ServesTo host (record { explains = explains; journal = option_map (λ text. text.now) journal; service = service })
-    (record { name = name.now; gives = gives_in host.file parent; before = host.file name.now; after = after }) ending old new
+    (record { file = file_of host name.now; gives = gives_in host.file parent; before = host.file name.now; after = after }) ending old new

@@ -1,22 +1,18 @@
 ghost use Rattle.std.specs.Prelude.{◌≡◌, map, IfOk, string_bytes, Ok};
 ghost use Rattle.std.specs.Result.{result_map_both};
 ghost use Rattle.program.specs.Answering.{Answers};
-ghost use Rattle.network.specs.declared.logging.LoggedPoller.{LoggedPoller};
-ghost use Rattle.program.specs.Performing.{host_view};
 
 use crate::ending::Ending;
 use crate::explaining::{explain_end, explains_end};
-use crate::host::{Files, Host};
+use crate::host::Host;
+use crate::known::Known;
 use crate::program::Program;
-use accesslog::LoggedTransport;
 use commandline::{WordsFault, command};
 use console::{Console, Failure, Terminal, report};
-use journalfile::Log;
-use network::{Network, Port, Runtime};
+use network::{Network, Runtime};
 use std::alloc::{AllocError, Global};
 use streams::{Sink, Source};
 use thiserror::Error;
-use turns::Transport;
 
 /// Why the arguments can't be read.
 #[derive(Clone, Copy, Debug, Error)]
@@ -47,7 +43,7 @@ impl<R: Runtime, H: Host> Program<'_, R, H> {
         texts: &[&str],
         console: &mut Console<I, O, E>,
     ) -> Ending<H::Port, H::Log>
-        ensures { Answers (host_view ⟦<H as Files>⟧ H.listens H.refuses H.journal ⟦<H::Port as Port<H::Connection>>⟧ ⟦<H::Log as Log>⟧ ⟦<LoggedTransport<H::Transport, R> as Transport>⟧ (LoggedPoller H.Poller) self.now.host.now)
+        ensures { Answers (⟦<H as Known<R>>⟧.view self.now.host.now)
             (Ok (map (λ text. text.now) texts.entry.now)) result (⟦<Console<I, O, E> as Terminal>⟧.streams console.old)
             (⟦<Console<I, O, E> as Terminal>⟧.streams console.new) }
     {
@@ -71,7 +67,7 @@ impl<R: Runtime, H: Host> Program<'_, R, H> {
         arguments: &[String],
         console: &mut Console<I, O, E>,
     ) -> Ending<H::Port, H::Log>
-        ensures { Answers (host_view ⟦<H as Files>⟧ H.listens H.refuses H.journal ⟦<H::Port as Port<H::Connection>>⟧ ⟦<H::Log as Log>⟧ ⟦<LoggedTransport<H::Transport, R> as Transport>⟧ (LoggedPoller H.Poller) self.now.host.now)
+        ensures { Answers (⟦<H as Known<R>>⟧.view self.now.host.now)
             (Ok (map string_bytes arguments.now)) result (⟦<Console<I, O, E> as Terminal>⟧.streams console.old)
             (⟦<Console<I, O, E> as Terminal>⟧.streams console.new) }
     {
@@ -87,7 +83,7 @@ impl<R: Runtime, H: Host> Program<'_, R, H> {
         arguments: Result<Vec<String>, ArgumentsUnread>,
         console: &mut Console<I, O, E>,
     ) -> Ending<H::Port, H::Log>
-        ensures answers { Answers (host_view ⟦<H as Files>⟧ H.listens H.refuses H.journal ⟦<H::Port as Port<H::Connection>>⟧ ⟦<H::Log as Log>⟧ ⟦<LoggedTransport<H::Transport, R> as Transport>⟧ (LoggedPoller H.Poller) self.now.host.now)
+        ensures answers { Answers (⟦<H as Known<R>>⟧.view self.now.host.now)
             (result_map_both (λ w. map string_bytes w.items) (λ e. e) arguments) result (⟦<Console<I, O, E> as Terminal>⟧.streams console.old)
             (⟦<Console<I, O, E> as Terminal>⟧.streams console.new) }
     {

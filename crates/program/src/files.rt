@@ -1,17 +1,18 @@
-ghost use Rattle.std.specs.Prelude.{◌≡◌, [], IfErr};
+ghost use Rattle.std.specs.Prelude.{◌≡◌, [], IfErr, false};
 ghost use Rattle.std.specs.Io.{ReadsAtMost};
 ghost use Rattle.std.specs.Io.KnownBytes.{ReadConsumes};
 ghost use Rattle.std.specs.IoError.{error_kind};
 ghost use Rattle.subcommands.specs.Folder.{IsParent};
-ghost use Rattle.program.specs.Hosts.{cause_of, left_of, gives_in};
+ghost use Rattle.program.specs.Hosts.{IsWithheld, cause_of, left_of, gives_in};
 
 use crate::host::Files;
-use console::{ReadFault, read_all};
 use mapdefs::Items;
 use std::alloc::{AllocError, Global};
-use std::io::{self, Read};
-use streams::Flagged;
-use subcommands::{Folder, HasCause, LookedFor, UnreadCause, parent_of, path_of};
+use std::io;
+use subcommands::{FileFault, FileReader, Folder, LookedFor, UnreadCause, parent_of, path_of};
+
+// How many bytes of a file are read at once, at most.
+const CHUNK: usize = 4_096;
 
 /// A file of a host by its path, which the first read opens.
 #[derive(Drop)]
@@ -19,8 +20,8 @@ pub struct HostFile<'a, H: Files> {
     host: &'a H,
     path: &'a str,
     file: Option<H::File>,
-    // Why a read failed last.
-    cause: UnreadCause,
+    // A read failed.
+    has_failed: bool,
 }
 
 impl<'a, H: Files> HostFile<'a, H> {
@@ -34,50 +35,51 @@ impl<'a, H: Files> HostFile<'a, H> {
             host,
             path,
             file: None,
-            cause: UnreadCause::Other,
+            has_failed: false,
         }
     }
 
     // Reads the next bytes of a file, which is opened first where it isn't open.
-    fn read_on(&mut self, room: &mut [u8]) -> io::Result<usize>
+    fn read(&mut self, room: &mut [u8]) -> io::Result<usize>
         ensures bound { ReadsAtMost result room.new }
         ensures bytes { ReadConsumes (left_of (H.file self.old.host.now self.old.path.now) H.File.remaining self.old.file)
             (left_of (H.file self.new.host.now self.new.path.now) H.File.remaining self.new.file) result room.new }
+        ensures withheld { IfErr result (λ e. H.withholds self.old.host.now self.old.path.now (error_kind e)) }
+        ensures same { (self.new.host ≡ self.old.host) × (self.new.path ≡ self.old.path) × (self.new.has_failed ≡ self.old.has_failed) }
     {
         if let Some(file) = &mut self.file {
-            return file.read(room);
+            return self.host.read_on(self.path, file, room);
         }
         let mut file = self.host.open(self.path)?;
-        let count = file.read(room)?;
+        let count = self.host.read_on(self.path, &mut file, room)?;
         self.file = Some(file);
         Ok(count)
     }
 }
 
-impl<H: Files> Read for HostFile<'_, H> {
-    ghost remaining = { λ f. left_of (H.file f.host.now f.path.now) H.File.remaining f.file };
+impl<H: Files> FileReader for HostFile<'_, H> {
+    ghost state = { λ f. record { left = left_of (H.file f.host.now f.path.now) H.File.remaining f.file; failed = f.has_failed } };
 
-    fn read(&mut self, room: &mut [u8]) -> io::Result<usize>
-        ensures bound { ReadsAtMost result room.new }
-        ensures bytes { ReadConsumes (left_of (H.file self.old.host.now self.old.path.now) H.File.remaining self.old.file)
-            (left_of (H.file self.new.host.now self.new.path.now) H.File.remaining self.new.file) result room.new }
-        ensures cause { IfErr result (λ e. self.new.cause ≡ cause_of (error_kind e)) }
-    {
-        match self.read_on(room) {
-            Ok(count) => Ok(count),
-            Err(error) => {
-                self.cause = cause_of(error.kind());
-                Err(error)
+    ghost unread_for = { λ f. IsWithheld (H.withholds f.host.now f.path.now) };
+
+    fn read_rest(&mut self, alloc: Global) -> Result<Vec<u8>, FileFault> {
+        let mut bytes = Vec::new(alloc);
+        let mut room = [0; CHUNK];
+        loop {
+            let count = match self.read(&mut room) {
+                Ok(count) => count,
+                Err(error) => {
+                    self.has_failed = true;
+                    return Err(FileFault::Unread(cause_of(error.kind())));
+                }
+            };
+            if count == 0 {
+                return Ok(bytes);
+            }
+            if bytes.extend_from_slice(&room[..count]).is_err() {
+                return Err(FileFault::NoMemory);
             }
         }
-    }
-}
-
-impl<H: Files> HasCause for HostFile<'_, H> {
-    ghost cause = { λ f. f.cause };
-
-    fn cause(&self) -> UnreadCause {
-        self.cause
     }
 }
 
@@ -98,11 +100,10 @@ fn why_unread<H: Files>(
     host: &H,
     path: &str,
 ) -> Result<Option<UnreadCause>, AllocError> {
-    let mut file = Flagged::new(HostFile::new(host, path));
-    match read_all(alloc, &mut file) {
+    match HostFile::new(host, path).read_rest(alloc) {
         Ok(_) => Ok(None),
-        Err(ReadFault::Input) => Ok(Some(file.cause())),
-        Err(ReadFault::NoMemory) => Err(AllocError),
+        Err(FileFault::Unread(cause)) => Ok(Some(cause)),
+        Err(FileFault::NoMemory) => Err(AllocError),
     }
 }
 
@@ -141,11 +142,10 @@ impl<H: Files> Folder for HostFolder<'_, H> {
 
     fn read(&self, alloc: Global, name: &str) -> Result<Option<Items<u8>>, AllocError> {
         let path = path_of(alloc, self.parent, name)?;
-        let mut file = Flagged::new(HostFile::new(self.host, path.as_str()));
-        match read_all(alloc, &mut file) {
+        match HostFile::new(self.host, path.as_str()).read_rest(alloc) {
             Ok(bytes) => Ok(Some(Items::of(bytes))),
-            Err(ReadFault::Input) => Ok(None),
-            Err(ReadFault::NoMemory) => Err(AllocError),
+            Err(FileFault::Unread(_)) => Ok(None),
+            Err(FileFault::NoMemory) => Err(AllocError),
         }
     }
 

@@ -1,4 +1,7 @@
 ghost use Rattle.std.specs.Prelude.{◌≡◌, ℕ, List, IfErr, IfOk, OnOk};
+ghost use Rattle.std.specs.Io.{ReadsAtMost};
+ghost use Rattle.std.specs.Io.KnownBytes.{ReadConsumes};
+ghost use Rattle.std.specs.IoError.{error_kind};
 ghost use Rattle.journalfile.specs.Settled.{GarblesNoRecord};
 
 use console::ListenCause;
@@ -50,9 +53,10 @@ pub enum OpenFault {
     NoMemory,
 }
 
-/// Opens files by their paths.
+/// Opens files by their paths, and reads them.
 pub trait Files {
     ghost use Rattle.std.specs.Prelude.{ℕ, List, Option};
+    ghost use Rattle.std.specs.declared.io.ErrorKind.{ErrorKind};
 
     /// A file that was opened.
     type File: Read + Drop;
@@ -60,21 +64,35 @@ pub trait Files {
     // The bytes of the file of a path, where they are known.
     ghost file: { Self → List ℕ → Option (List ℕ) };
 
+    // The file of a path can't be opened, or read on, for this error.
+    ghost withholds: { Self → List ℕ → ErrorKind → Type 0 };
+
     /// Opens the file of a path.
     fn open(&self, path: &str) -> io::Result<Self::File>
-        ensures { IfOk result (λ f. Self.File.remaining f ≡ file self.now path.now) };
+        ensures opened { IfOk result (λ f. Self.File.remaining f ≡ file self.now path.now) }
+        ensures withheld { IfErr result (λ e. withholds self.now path.now (error_kind e)) };
+
+    /// Reads on in the file of a path, which was opened.
+    fn read_on(&self, path: &str, opened: &mut Self::File, room: &mut [u8]) -> io::Result<usize>
+        ensures bound { ReadsAtMost result room.new }
+        ensures bytes { ReadConsumes (Self.File.remaining opened.old) (Self.File.remaining opened.new) result room.new }
+        ensures withheld { IfErr result (λ e. withholds self.now path.now (error_kind e)) };
 }
 
 /// The system on which the program runs: its files, its journals, and its ports.
 pub trait Host: Files + Network {
     ghost use Rattle.std.specs.Prelude.{ℕ, List};
     ghost use Rattle.console.specs.declared.failure.ListenCause.{ListenCause};
+    ghost use Rattle.program.specs.declared.host.OpenFault.{OpenFault};
 
     /// The log of a journal.
     type Log: Replaceable + Drop;
 
     // A log is one that the host gives for a path.
     ghost journal: { Self → List ℕ → Self.Log → Type 0 };
+
+    // The host gives no log for a path, for this cause.
+    ghost unopened: { Self → List ℕ → OpenFault → Type 0 };
 
     // A port is one that the host gives for a number.
     ghost listens: { Self → ℕ → Self.Port → Type 0 };
@@ -91,6 +109,7 @@ pub trait Host: Files + Network {
     /// of them, or doesn't exist. Nothing that has the path is replaced. Digests show which bytes of a reliable log a crash has garbled.
     fn open_log(&self, path: &str, bytes: &[u8]) -> Result<Self::Log, OpenFault>
         ensures given { IfOk result (λ log. journal self.now path.now log) }
+        ensures unopened { IfErr result (unopened self.now path.now) }
         ensures recognised { OnOk result (Self.Log.reliable → (name : List ℕ) → GarblesNoRecord Self.Log.garbled name) };
 
     /// The waker of a wait at a port, if the port knows its address.

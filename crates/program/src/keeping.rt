@@ -8,14 +8,14 @@ ghost use Rattle.journal.specs.Fingerprint.{file_message};
 ghost use Rattle.journalfile.specs.Settled.{GarblesNoRecord};
 ghost use Rattle.subcommands.specs.Mapfiles.{TouchesNeither};
 ghost use Rattle.subcommands.specs.Session.{opened};
-ghost use Rattle.program.specs.Journals.{IsOpened, IsUnopened, ReportsCut, ReportsEnd, cut_line, failure_of, fault_more, fault_message, given_message, is_unopened, journal_fault, journal_view, log_message, map_fingerprint, number_text};
+ghost use Rattle.program.specs.Journals.{IsOpened, IsUnopened, IsWithoutLog, ReportsCut, ReportsEnd, cut_line, failure_of, fault_more, fault_message, given_message, journal_fault, journal_view, log_message, map_fingerprint, number_text};
 
 use crate::causes::fault_of_cause;
 use crate::host::{Files, Host, OpenFault};
 use console::{Failure, Writes, report};
 use itoa::Buffer;
 use journal::{HeaderFault, JournalName, UsedFile, fingerprint_of, push_header};
-use journalfile::{Journal, Log, RecoverFault, Recovered, read_name, recover};
+use journalfile::{Journal, Log, LogFailure, RecoverFault, Recovered, read_name, recover};
 use keepers::LogCause;
 use mapdefs::Map;
 use mapmachine::Machine;
@@ -277,7 +277,7 @@ fn log_of<H: Host>(
 ) -> Result<H::Log, JournalFault>
     ensures given { IfOk result (λ log. H.journal host.now path.now log) }
     ensures recognised { OnOk result (H.Log.reliable → (name : List ℕ) → GarblesNoRecord H.Log.garbled name) }
-    ensures unopened { IfErr result is_unopened }
+    ensures unopened { IfErr result (IsWithoutLog (journal_view H.journal H.unopened ⟦<H::Log as Log>⟧ H.Log.Failure.cause host.now) path.now) }
 {
     let Ok(header) = header_of(alloc, fingerprint) else {
         return Err(JournalFault::Log(OpenFault::NoMemory));
@@ -311,7 +311,7 @@ pub(crate) struct OpenedJournal<L> {
 // The machine of a map after so many batches that were left out of its journal. The error is that memory was refused.
 fn machine_at(alloc: Global, map: Map, skipped: u64) -> Result<Machine, JournalFault>
     ensures machine { IfOk result (λ machine. machine ≡ skipping skipped (opened map)) }
-    ensures fault { IfErr result is_unopened }
+    ensures fault { IfErr result (λ why. why ≡ JournalFault.Log OpenFault.NoMemory) }
 {
     match Machine::open_at(alloc, map, skipped) {
         Ok(machine) => Ok(machine),
@@ -326,11 +326,11 @@ pub(crate) fn open_journal<H: Host>(
     fingerprint: [u8; 32],
     map: Map,
 ) -> Result<OpenedJournal<H::Log>, JournalFault>
-    ensures opened { IfOk result (λ found. IsOpened (journal_view H.journal ⟦<H::Log as Log>⟧ place.entry.host.now)
+    ensures opened { IfOk result (λ found. IsOpened (journal_view H.journal H.unopened ⟦<H::Log as Log>⟧ H.Log.Failure.cause place.entry.host.now)
         place.entry.path.now fingerprint (opened map) found.machine found.journal found.cut) }
     ensures recognised { OnOk result (H.Log.reliable → (name : List ℕ) → GarblesNoRecord H.Log.garbled name) }
-    ensures fault { IfErr result (λ fault. IsUnopened
-        (journal_view H.journal ⟦<H::Log as Log>⟧ place.entry.host.now) place.entry.path.now fingerprint (opened map) fault) }
+    ensures fault { IfErr result (IsUnopened (journal_view H.journal H.unopened ⟦<H::Log as Log>⟧ H.Log.Failure.cause place.entry.host.now)
+        place.entry.path.now fingerprint (opened map)) }
 {
     let mut log = log_of(alloc, place.host, place.path, &fingerprint)?;
     let name = read_name(alloc, &fingerprint, &mut log)?;

@@ -16,6 +16,7 @@ mod files;
 mod host;
 mod journal_file;
 mod keeping;
+mod known;
 mod performing;
 mod program;
 mod serving;

@@ -3,27 +3,22 @@ ghost use Rattle.commandline.specs.declared.subcommand.Command.TheVariants.{Sess
 ghost use Rattle.console.specs.Console.{Leaves};
 ghost use Rattle.program.specs.Hosts.{gives_in, left_of};
 ghost use Rattle.program.specs.Journals.{map_fingerprint};
-ghost use Rattle.network.specs.declared.logging.LoggedPoller.{LoggedPoller};
-ghost use Rattle.program.specs.Performing.{Left, host_view, Performs, ServesMap, ServesTo};
+ghost use Rattle.program.specs.Performing.{Left, Performs, ServesMap, ServesTo, file_of};
 ghost use Rattle.subcommands.specs.Folder.{IsParent};
 ghost use Rattle.subcommands.specs.Mapfiles.{ChecksTo, RunsTo};
-ghost use Rattle.subcommands.specs.Reports.{ReadFile};
 ghost use Rattle.subcommands.specs.Session.{PlaysTo};
-ghost use Rattle.subcommands.specs.declared.unread.UnreadCause.{UnreadCause};
 
 use crate::ending::Ending;
 use crate::files::{HostFile, HostFolder};
 use crate::host::{Files, Host};
+use crate::known::Known;
 use crate::program::Program;
 use crate::serving::JournaledService;
-use accesslog::LoggedTransport;
 use commandline::{Command, Service};
 use console::{Console, Failure, Terminal, Writes};
-use journalfile::Log;
-use network::{Network, Port, Runtime};
-use streams::{Flagged, Sink, Source};
+use network::{Network, Runtime};
+use streams::{Sink, Source};
 use subcommands::{Job, NamedFile, ReadMap, check, read_map, run, session};
-use turns::Transport;
 
 // The mapfile of a map, and the script that is to be played on it.
 #[derive(Clone, Copy)]
@@ -42,15 +37,15 @@ struct RequestedService<'a> {
 }
 
 // The file of a path, whose name is that path.
-fn named_file<'a, H: Files>(host: &'a H, path: &'a str) -> NamedFile<'a, Flagged<HostFile<'a, H>>>
+fn named_file<'a, H: Files>(host: &'a H, path: &'a str) -> NamedFile<'a, HostFile<'a, H>>
     ensures name { result.name.now ≡ path.now }
-    ensures left { left_of (H.file host.now path.now) H.File.remaining result.reader.inner.file ≡ H.file host.now path.now }
-    ensures host { result.reader.inner.host.now ≡ host.now }
-    ensures path { result.reader.inner.path.now ≡ path.now }
+    ensures left { left_of (H.file host.now path.now) H.File.remaining result.reader.file ≡ H.file host.now path.now }
+    ensures host { result.reader.host.now ≡ host.now }
+    ensures path { result.reader.path.now ≡ path.now }
 {
     NamedFile {
         name: path,
-        reader: Flagged::new(HostFile::new(host, path)),
+        reader: HostFile::new(host, path),
     }
 }
 
@@ -75,9 +70,9 @@ impl<R: Runtime, H: Host> Program<'_, R, H> {
         explains: bool,
         console: &mut Console<I, O, E>,
     ) -> Result<(), Failure>
-        ensures checks { (parent : List ℕ) × IsParent file.now parent × (after : Left) × (cause : UnreadCause)
+        ensures checks { (parent : List ℕ) × IsParent file.now parent × (after : Left)
             × ChecksTo (record { gives = gives_in (H.Files.file self.now.host.now) parent; explains = explains }) result
-            (record { name = file.now; cause = cause })
+            (file_of (⟦<H as Known<R>>⟧.view self.now.host.now) file.now)
             (record { before = H.Files.file self.now.host.now file.now; after = after })
             (⟦<Console<I, O, E> as Terminal>⟧.streams console.old) (⟦<Console<I, O, E> as Terminal>⟧.streams console.new) }
         ensures input { console.new.input ≡ console.old.input }
@@ -99,12 +94,11 @@ impl<R: Runtime, H: Host> Program<'_, R, H> {
         explains: bool,
         console: &mut Console<I, O, E>,
     ) -> Result<(), Failure>
-        ensures runs { (parent : List ℕ) × IsParent scripted.entry.file.now parent × (after : Left) × (script_after : Left) × (cause : UnreadCause)
-            × (script_cause : UnreadCause)
+        ensures runs { (parent : List ℕ) × IsParent scripted.entry.file.now parent × (after : Left) × (script_after : Left)
             × RunsTo (record { gives = gives_in (H.Files.file self.now.host.now) parent; explains = explains }) result
             (record {
-              mapfile = record { name = scripted.entry.file.now; cause = cause };
-              script = record { name = scripted.entry.script.now; cause = script_cause };
+              mapfile = file_of (⟦<H as Known<R>>⟧.view self.now.host.now) scripted.entry.file.now;
+              script = file_of (⟦<H as Known<R>>⟧.view self.now.host.now) scripted.entry.script.now;
             })
             (record {
               mapfile = record { before = H.Files.file self.now.host.now scripted.entry.file.now; after = after };
@@ -132,14 +126,14 @@ impl<R: Runtime, H: Host> Program<'_, R, H> {
         console: &mut Console<I, O, E>,
     ) -> Ending<H::Port, H::Log>
         ensures serves { (parent : List ℕ) × IsParent file.now parent × (after : Left)
-            × ServesTo (host_view ⟦<H as Files>⟧ H.listens H.refuses H.journal ⟦<H::Port as Port<H::Connection>>⟧ ⟦<H::Log as Log>⟧ ⟦<LoggedTransport<H::Transport, R> as Transport>⟧ (LoggedPoller H.Poller) self.now.host.now)
+            × ServesTo (⟦<H as Known<R>>⟧.view self.now.host.now)
             (record {
               explains = requested.entry.explains;
               journal = option_map (λ path. path.now) requested.entry.journal;
               service = requested.entry.service;
             })
             (record {
-              name = file.now;
+              file = file_of (⟦<H as Known<R>>⟧.view self.now.host.now) file.now;
               gives = gives_in (H.Files.file self.now.host.now) parent;
               before = H.Files.file self.now.host.now file.now;
               after = after;
@@ -167,7 +161,7 @@ impl<R: Runtime, H: Host> Program<'_, R, H> {
         requested: RequestedService<'_>,
         console: &mut Console<I, O, E>,
     ) -> Ending<H::Port, H::Log>
-        ensures serves { ServesMap (host_view ⟦<H as Files>⟧ H.listens H.refuses H.journal ⟦<H::Port as Port<H::Connection>>⟧ ⟦<H::Log as Log>⟧ ⟦<LoggedTransport<H::Transport, R> as Transport>⟧ (LoggedPoller H.Poller) self.now.host.now)
+        ensures serves { ServesMap (⟦<H as Known<R>>⟧.view self.now.host.now)
             (record {
               explains = requested.entry.explains;
               journal = option_map (λ path. path.now) requested.entry.journal;
@@ -207,8 +201,7 @@ impl<R: Runtime, H: Host> Program<'_, R, H> {
         command: Command,
         console: &mut Console<I, O, E>,
     ) -> Ending<H::Port, H::Log>
-        ensures performs { Performs (host_view ⟦<H as Files>⟧ H.listens H.refuses H.journal ⟦<H::Port as Port<H::Connection>>⟧
-            ⟦<H::Log as Log>⟧ ⟦<LoggedTransport<H::Transport, R> as Transport>⟧ (LoggedPoller H.Poller) self.now.host.now) command.entry result
+        ensures performs { Performs (⟦<H as Known<R>>⟧.view self.now.host.now) command.entry result
             (⟦<Console<I, O, E> as Terminal>⟧.streams console.old) (⟦<Console<I, O, E> as Terminal>⟧.streams console.new) }
         ensures input { command.entry ≢ Session → console.new.input ≡ console.old.input }
         ensures leaves { Leaves result.outcome (⟦<Console<I, O, E> as Terminal>⟧.streams console.old) (⟦<Console<I, O, E> as Terminal>⟧.streams console.new) }

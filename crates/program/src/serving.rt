@@ -1,33 +1,32 @@
-ghost use Rattle.std.specs.Prelude.{◌≡◌, ◌||◌, ℕ, List, Err, IfErr, IfOk, OnOk, Some, None, is_some, true, false, vec_len};
+ghost use Rattle.std.specs.Prelude.{◌≡◌, ◌||◌, ℕ, List, IfErr, IfOk, OnErr, OnOk, Some, None, is_some, true, false, vec_len};
 ghost use Rattle.console.specs.Console.{LeavesOutput, is_input_failed};
 ghost use Rattle.journal.specs.Name.{IsBounded};
 ghost use Rattle.journalfile.specs.Settled.{GarblesNoRecord, IsSettled};
-ghost use Rattle.program.specs.Journals.{IsOpened, IsUnopened, checkpoint_of, journal_view, map_fingerprint};
-ghost use Rattle.network.specs.declared.logging.LoggedPoller.{LoggedPoller};
-ghost use Rattle.program.specs.Performing.{IsServed, NamesItsPort, NamesPort, ServesCompacted, ServesJournal, ServesMachine, ServesMap, by_compacted, by_journal, host_view};
+ghost use Rattle.program.specs.Journals.{IsOpened, IsUnopened, checkpoint_of, map_fingerprint};
+ghost use Rattle.program.specs.Performing.{IsServed, NamesItsPort, NamesPort, ServesCompacted, ServesJournal, ServesMachine, ServesMap, by_compacted, by_journal};
 ghost use Rattle.subcommands.specs.Session.{opened};
-ghost use Rattle.network.specs.Announcing.{IsUnserved, is_service_failure};
+ghost use Rattle.network.specs.Announcing.{is_resource_failure};
+ghost use Rattle.subcommands.specs.Mapfiles.{TouchesNeither};
 
 use crate::ending::Ending;
-use crate::host::{Files, Host, ListenFailed, OpenFault};
+use crate::host::{Host, ListenFailed, OpenFault};
 use crate::keeping::{
     JournalFault, JournalPlace, OpenedJournal, fingerprint_of_map, open_journal, report_cut,
     report_end, report_journal_fault,
 };
+use crate::known::Known;
 use crate::program::Program;
-use accesslog::LoggedTransport;
 use commandline::Service;
 use console::{Console, Failure, Writes};
 use journalfile::{Checkpoint, CompactedJournal, Journal, Log, LogFailure};
 use keepers::Keeps;
 use mapdefs::Map;
 use mapmachine::Machine;
-use network::{Network, Port, PortFor, Ports, Runtime, Until};
+use network::{Network, PortFor, Ports, Runtime, Until};
 use service::{Kept, Served, serve_by_threads};
 use std::alloc::Global;
 use streams::Sink;
 use subcommands::ReadMap;
-use turns::Transport;
 
 /// How a map is to be served whose batches are kept, and the path of their journal.
 #[derive(Clone, Copy)]
@@ -62,7 +61,6 @@ fn checkpoint_of(megabytes: u32) -> Checkpoint
 fn listen_on<H: Host>(host: &H, port: u16) -> Result<H::Port, Failure>
     ensures listens { IfOk result (λ p. H.listens host.now port p) }
     ensures named { IfErr result (NamesPort (λ named cause. (named ≡ port) × H.refuses host.now port cause)) }
-    ensures failed { IfErr result (λ failure. is_service_failure failure ≡ true) }
 {
     match host.listen(port) {
         Ok(listened) => Ok(listened),
@@ -73,8 +71,7 @@ fn listen_on<H: Host>(host: &H, port: u16) -> Result<H::Port, Failure>
 // A poller for each of so many workers.
 fn pollers_of<H: Host>(alloc: Global, host: &H, workers: u16) -> Result<Vec<H::Poller>, Failure>
     ensures number { IfOk result (λ pollers. vec_len pollers ≡ workers) }
-    ensures unnamed { IfErr result (NamesPort (λ _ _. ⊥)) }
-    ensures failed { IfErr result (λ failure. is_service_failure failure ≡ true) }
+    ensures failed { IfErr result (λ failure. is_resource_failure failure ≡ true) }
 {
     let mut pollers = Vec::new(alloc);
     for _ in 0..workers {
@@ -95,8 +92,7 @@ fn until_of<H: Host>(
     clients: &H::Port,
 ) -> Result<Option<Until<H::Waker, H::Input>>, Failure>
     ensures asked { IfOk result (λ until. is_some until ≡ service.until_input_ends) }
-    ensures unnamed { IfErr result (NamesPort (λ _ _. ⊥)) }
-    ensures failed { IfErr result (λ failure. is_service_failure failure ≡ true) }
+    ensures failed { IfErr result (λ failure. is_resource_failure failure ≡ true) }
 {
     if !service.until_input_ends {
         return Ok(None);
@@ -119,7 +115,6 @@ fn listen<H: Host>(
     ensures pollers { IfOk result (λ ports. vec_len ports.pollers ≡ service.workers) }
     ensures until { IfOk result (λ ports. is_some ports.until ≡ service.until_input_ends) }
     ensures named { IfErr result (NamesItsPort (H.refuses host.now) service) }
-    ensures failed { IfErr result (λ failure. is_service_failure failure ≡ true) }
 {
     let clients = listen_on(host, service.port)?;
     let administration = listen_on(host, service.admin_port)?;
@@ -148,11 +143,11 @@ impl<R: Runtime, H: Host> Program<'_, R, H> {
         output: &mut O,
     ) -> Result<Served<H::Port, K>, Failure>
         requires ready { (batches : List (List ℕ)) × K.keeps kept.keeper batches }
-        ensures served { IfOk result (λ served. IsServed (host_view ⟦<H as Files>⟧ H.listens H.refuses H.journal ⟦<H::Port as Port<H::Connection>>⟧
-            ⟦<H::Log as Log>⟧ ⟦<LoggedTransport<H::Transport, R> as Transport>⟧ (LoggedPoller H.Poller) self.now.host.now) ⟦<K as Keeps>⟧
+        ensures served { IfOk result (λ served. IsServed (⟦<H as Known<R>>⟧.view self.now.host.now) ⟦<K as Keeps>⟧
             (record { machine = kept.machine; keeper = kept.keeper; service = service }) served
             (⟦<O as Writes>⟧.state output.old) (⟦<O as Writes>⟧.state output.new)) }
-        ensures unserved { IfErr result (λ failure. IsUnserved (Err failure) (⟦<O as Writes>⟧.state output.old) (⟦<O as Writes>⟧.state output.new)) }
+        ensures unwritten { OnErr result (⟦<O as Writes>⟧.state output.new ≡ ⟦<O as Writes>⟧.state output.old) }
+        ensures neither { IfErr result TouchesNeither }
         ensures named { IfErr result (NamesItsPort (H.refuses self.now.host.now) service) }
     {
         let ports = listen(self.rt.alloc(), self.host, service)?;
@@ -167,8 +162,7 @@ impl<R: Runtime, H: Host> Program<'_, R, H> {
         output: &mut O,
     ) -> Ending<H::Port, H::Log>
         requires ready { (batches : List (List ℕ)) × ⟦<Option<Journal<H::Log>> as Keeps>⟧.keeps kept.keeper batches }
-        ensures serves { ServesMachine (host_view ⟦<H as Files>⟧ H.listens H.refuses H.journal ⟦<H::Port as Port<H::Connection>>⟧
-            ⟦<H::Log as Log>⟧ ⟦<LoggedTransport<H::Transport, R> as Transport>⟧ (LoggedPoller H.Poller) self.now.host.now) by_journal (record { machine = kept.machine; keeper = kept.keeper; service = service }) result
+        ensures serves { ServesMachine (⟦<H as Known<R>>⟧.view self.now.host.now) by_journal (record { machine = kept.machine; keeper = kept.keeper; service = service }) result
             (⟦<O as Writes>⟧.state output.old) (⟦<O as Writes>⟧.state output.new) }
         ensures leaves { LeavesOutput result.outcome (⟦<O as Writes>⟧.state output.old) (⟦<O as Writes>⟧.state output.new) }
         ensures reads { is_input_failed result.outcome ≡ false }
@@ -187,8 +181,7 @@ impl<R: Runtime, H: Host> Program<'_, R, H> {
         output: &mut O,
     ) -> Ending<H::Port, H::Log>
         requires ready { (batches : List (List ℕ)) × ⟦<CompactedJournal<H::Log> as Keeps>⟧.keeps kept.keeper batches }
-        ensures serves { ServesMachine (host_view ⟦<H as Files>⟧ H.listens H.refuses H.journal ⟦<H::Port as Port<H::Connection>>⟧
-            ⟦<H::Log as Log>⟧ ⟦<LoggedTransport<H::Transport, R> as Transport>⟧ (LoggedPoller H.Poller) self.now.host.now) by_compacted (record { machine = kept.machine; keeper = kept.keeper; service = service }) result
+        ensures serves { ServesMachine (⟦<H as Known<R>>⟧.view self.now.host.now) by_compacted (record { machine = kept.machine; keeper = kept.keeper; service = service }) result
             (⟦<O as Writes>⟧.state output.old) (⟦<O as Writes>⟧.state output.new) }
         ensures leaves { LeavesOutput result.outcome (⟦<O as Writes>⟧.state output.old) (⟦<O as Writes>⟧.state output.new) }
         ensures reads { is_input_failed result.outcome ≡ false }
@@ -207,8 +200,7 @@ impl<R: Runtime, H: Host> Program<'_, R, H> {
         output: &mut O,
     ) -> Ending<H::Port, H::Log>
         requires ready { (batches : List (List ℕ)) × ⟦<CompactedJournal<H::Log> as Keeps>⟧.keeps kept.keeper batches }
-        ensures serves { ServesCompacted (host_view ⟦<H as Files>⟧ H.listens H.refuses H.journal ⟦<H::Port as Port<H::Connection>>⟧
-            ⟦<H::Log as Log>⟧ ⟦<LoggedTransport<H::Transport, R> as Transport>⟧ (LoggedPoller H.Poller) self.now.host.now) (record { machine = kept.machine; keeper = kept.keeper; service = service }) result
+        ensures serves { ServesCompacted (⟦<H as Known<R>>⟧.view self.now.host.now) (record { machine = kept.machine; keeper = kept.keeper; service = service }) result
             (⟦<O as Writes>⟧.state output.old) (⟦<O as Writes>⟧.state output.new) }
         ensures leaves { LeavesOutput result.outcome (⟦<O as Writes>⟧.state output.old) (⟦<O as Writes>⟧.state output.new) }
         ensures reads { is_input_failed result.outcome ≡ false }
@@ -229,8 +221,7 @@ impl<R: Runtime, H: Host> Program<'_, R, H> {
         requires recognised { H.Log.reliable → (name : List ℕ) → GarblesNoRecord H.Log.garbled name }
         requires settled { (own : List (List ℕ)) × (H.Log.reliable → IsSettled H.Log.content H.Log.may_leave kept.keeper own) }
         requires bounded { IsBounded kept.keeper.name.compaction }
-        ensures serves { ServesJournal (host_view ⟦<H as Files>⟧ H.listens H.refuses H.journal ⟦<H::Port as Port<H::Connection>>⟧
-            ⟦<H::Log as Log>⟧ ⟦<LoggedTransport<H::Transport, R> as Transport>⟧ (LoggedPoller H.Poller) self.now.host.now) (journaled.entry.explains || journaled.entry.service.logs)
+        ensures serves { ServesJournal (⟦<H as Known<R>>⟧.view self.now.host.now) (journaled.entry.explains || journaled.entry.service.logs)
             (record { machine = kept.machine; keeper = kept.keeper; service = journaled.entry.service }) result
             (⟦<O as Writes>⟧.state output.old) (⟦<O as Writes>⟧.state output.new) }
         ensures leaves { LeavesOutput result.outcome (⟦<O as Writes>⟧.state output.old) (⟦<O as Writes>⟧.state output.new) }
@@ -261,8 +252,7 @@ impl<R: Runtime, H: Host> Program<'_, R, H> {
         service: Service,
         output: &mut O,
     ) -> Ending<H::Port, H::Log>
-        ensures serves { ServesMachine (host_view ⟦<H as Files>⟧ H.listens H.refuses H.journal ⟦<H::Port as Port<H::Connection>>⟧
-            ⟦<H::Log as Log>⟧ ⟦<LoggedTransport<H::Transport, R> as Transport>⟧ (LoggedPoller H.Poller) self.now.host.now) by_journal (record { machine = opened map; keeper = None; service = service }) result
+        ensures serves { ServesMachine (⟦<H as Known<R>>⟧.view self.now.host.now) by_journal (record { machine = opened map; keeper = None; service = service }) result
             (⟦<O as Writes>⟧.state output.old) (⟦<O as Writes>⟧.state output.new) }
         ensures leaves { LeavesOutput result.outcome (⟦<O as Writes>⟧.state output.old) (⟦<O as Writes>⟧.state output.new) }
         ensures reads { is_input_failed result.outcome ≡ false }
@@ -279,10 +269,10 @@ impl<R: Runtime, H: Host> Program<'_, R, H> {
 
     // The machine of a map that was read, after the batches of its journal, and that journal.
     fn open_kept(&self, read: ReadMap, path: &str) -> Result<OpenedJournal<H::Log>, JournalFault>
-        ensures opened { IfOk result (λ found. IsOpened (journal_view H.journal ⟦<H::Log as Log>⟧ self.now.host.now) path.now
+        ensures opened { IfOk result (λ found. IsOpened (⟦<H as Known<R>>⟧.journals self.now.host.now) path.now
             (map_fingerprint read.source.items read.files) (opened read.map) found.machine found.journal found.cut) }
         ensures recognised { OnOk result (H.Log.reliable → (name : List ℕ) → GarblesNoRecord H.Log.garbled name) }
-        ensures fault { IfErr result (IsUnopened (journal_view H.journal ⟦<H::Log as Log>⟧ self.now.host.now) path.now
+        ensures fault { IfErr result (IsUnopened (⟦<H as Known<R>>⟧.journals self.now.host.now) path.now
             (map_fingerprint read.source.items read.files) (opened read.map)) }
     {
         let alloc = self.rt.alloc();
@@ -297,17 +287,16 @@ impl<R: Runtime, H: Host> Program<'_, R, H> {
         open_journal(alloc, place, fingerprint, map)
     }
 
-    /// Serves a map that was read in the state after the batches of its journal. The journal keeps those that follow; where it is compacted,
-    /// it keeps the state that they lead to. It listens on two ports for that. It reports why the journal can't be opened, or that the journal failed; and that a torn tail was cut off, where that is requested or a
-    /// log is kept.
+    /// Serves a map that was read in the state after the batches of its journal. The journal keeps those that follow; where it is
+    /// compacted, it keeps the state that they lead to. It listens on two ports for that. It reports why the journal can't be opened, or
+    /// that the journal failed; and that a torn tail was cut off, where that is requested or a log is kept.
     pub fn serve_kept<I, O: Sink, E: Sink>(
         &self,
         read: ReadMap,
         journaled: JournaledService<'_>,
         console: &mut Console<I, O, E>,
     ) -> Ending<H::Port, H::Log>
-        ensures serves { ServesMap (host_view ⟦<H as Files>⟧ H.listens H.refuses H.journal ⟦<H::Port as Port<H::Connection>>⟧
-            ⟦<H::Log as Log>⟧ ⟦<LoggedTransport<H::Transport, R> as Transport>⟧ (LoggedPoller H.Poller) self.now.host.now)
+        ensures serves { ServesMap (⟦<H as Known<R>>⟧.view self.now.host.now)
             (record {
               explains = journaled.entry.explains;
               journal = Some journaled.entry.path.now;

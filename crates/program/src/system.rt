@@ -6,6 +6,7 @@ use crate::journal_file::JournalFile;
 use console::ListenCause;
 use network::{Network, SocketConnection, SocketPoller, SocketPort, SocketTransport, SocketWaker};
 use std::fs::{self, File};
+use std::io::Read;
 use std::net::{Ipv4Addr, SocketAddr, TcpListener};
 use std::os::fd::OwnedFd;
 use std::{env, io};
@@ -42,8 +43,14 @@ impl Files for SystemHost {
 
     ghost file = { λ _ _. None };
 
+    ghost withholds = { λ _ _ _. Unit {0} };
+
     fn open(&self, path: &str) -> io::Result<File> {
         fs::open(&self.rt, path)
+    }
+
+    fn read_on(&self, _path: &str, opened: &mut File, room: &mut [u8]) -> io::Result<usize> {
+        opened.read(room)
     }
 }
 
@@ -51,6 +58,8 @@ impl Host for SystemHost {
     type Log = JournalFile;
 
     ghost journal = { λ _ _ _. Unit {0} };
+
+    ghost unopened = { λ _ _ _. Unit {0} };
 
     ghost listens = { λ _ _ _. Unit {0} };
 

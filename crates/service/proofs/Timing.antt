@@ -1,11 +1,12 @@
 -- The workers that a service's threads gave back.
 use Rattle.std.proofs.Common.{◌≡◌, ℕ, [], List, Option, None, Some, All, length, refl, subst, sym}
 use Rattle.std.proofs.lemmas.List.Elements.{All-weaker}
-use Rattle.std.specs.Prelude.{Result, Ok, Err, IfErr, MatchResult, true}
+use Rattle.std.specs.Prelude.{Result, Ok, Err, IfErr, IsErr, MatchResult, true}
 use Rattle.batches.specs.Batch.{State}
 use Rattle.commandline.specs.declared.subcommand.Service.{Service}
 use Rattle.console.specs.Console.{Outcome}
 use Rattle.console.specs.declared.failure.Failure.{Failure}
+use Rattle.console.specs.declared.failure.Failure.TheVariants.{JournalFailed}
 use Rattle.eventloop.specs.Rounds.{HasBeen}
 use Rattle.eventloop.specs.declared.worker.Worker.{Worker}
 use Rattle.mapshare.specs.Answerer.{reader_answers}
@@ -17,7 +18,6 @@ use Rattle.keepers.specs.declared.keeps.Keeps.{Ghosts as Keeps}
 use Rattle.mapshare.specs.Admin.{Batches}
 use Rattle.keepers.specs.declared.cause.LogCause.{LogCause}
 use Rattle.mapshare.specs.declared.admin.KeepFailed as keep
-use Rattle.network.specs.Announcing.{GoesOnAfter, is_service_failure}
 use Rattle.service.specs.Serving.{HaveServed, LosesNone, NamesCause, WereServed}
 use Rattle.turns.specs.Table.{timeouts_of}
 use Rattle.turns.specs.declared.times.Timeouts.{Timeouts}
@@ -41,16 +41,13 @@ were-served P known opening service outcome final served ends = record { workers
 pub none-served : {T : Type 0} (P : Type 0) (known : Transport T) (opening : State) (service : Service) (failure : Failure) → WereServed P known opening service (Err failure)
 none-served P known opening service failure = record { workers = None; well = λ fine. absurd (cc fine); served = tt }
 
--- an outcome that fails as a service does is one after a good beginning
-pub goes-on : (outcome : Outcome) → IfErr outcome (λ failure. is_service_failure failure ≡ true) → GoesOnAfter (Ok tt) outcome
-goes-on (Ok done) fails = tt
-goes-on (Err failure) fails = fails
-
 -- the cause of an end is that of its keeper
-pub names-cause : (kept : Result (Unit {0}) keep.KeepFailed) (found : Option LogCause) (fails : LogCause → Type 0) → MatchResult kept (λ _. found ≡ None) (λ failed. found ≡ Some failed.cause)
-    → IfErr kept (λ failed. IsCause fails failed.cause) → NamesCause fails found
-names-cause (Ok done) found fails same is = subst (NamesCause fails) (sym same) tt
-names-cause (Err why) found fails same is = subst (NamesCause fails) (sym same) is
+pub names-cause : (kept : Result (Unit {0}) keep.KeepFailed) (outcome : Outcome) (found : Option LogCause) (fails : LogCause → Type 0)
+    → (IsErr kept → outcome ≡ Err JournalFailed) → (outcome ≡ Err JournalFailed → IsErr kept)
+    → MatchResult kept (λ _. found ≡ None) (λ failed. found ≡ Some failed.cause)
+    → IfErr kept (λ failed. IsCause fails failed.cause) → NamesCause fails outcome found
+names-cause (Ok done) outcome found fails ends began same is = subst (NamesCause fails outcome) (sym same) (record { named = λ e. absurd (cc (began e)); failed = tt })
+names-cause (Err why) outcome found fails ends began same is = subst (NamesCause fails outcome) (sym same) (record { named = λ e. refl; failed = (ends refl, is) })
 
 -- a service of which no batch was lost since it began loses none
 pub loses-none : {K : Type 0} (known : Keeps K) (opening : State) (first last : K) (new : Batches) → NoneLost known opening (record { published = []; pending = [] }) first new last → LosesNone known opening first last

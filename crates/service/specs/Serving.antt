@@ -1,10 +1,11 @@
 -- What a service was (docs/SERVICE.md, "The program").
 use Rattle.std.specs.List.{All}
-use Rattle.std.specs.Prelude.{◌≡◌, ℕ, ◌-◌, ◌+◌, ◌≤◌, ◌^◌, min, List, [], ◌++◌, length, Option, None, Some, Ok, IfSome, IsSome}
+use Rattle.std.specs.Prelude.{◌≡◌, ℕ, ◌-◌, ◌+◌, ◌≤◌, ◌^◌, min, List, [], ◌++◌, length, Option, None, Some, Ok, Err, IfSome, IsSome}
 use Rattle.batches.specs.Batch.{State, accepted as accepted_by}
 use Rattle.sharing.specs.Sharing.{after}
 use Rattle.commandline.specs.declared.subcommand.Service.{Service}
 use Rattle.console.specs.Console.{Outcome}
+use Rattle.console.specs.declared.failure.Failure.TheVariants.{JournalFailed}
 use Rattle.eventloop.specs.Rounds.{HasBeen}
 use Rattle.eventloop.specs.declared.worker.Worker.{Worker}
 use Rattle.keepers.specs.Crashes.{LeavesOnly}
@@ -67,9 +68,11 @@ LosesNone known opening first last =
     known.reliable → (batches : List (List ℕ)) → known.keeps first batches
     → LeavesOnly known.moment known.left_since first last (StandsForMore opening known.stands first batches)
 
--- where a service names why its keeper failed, a call of that failed for this cause, or its batches couldn't follow those of the history
-abbrev pub NamesCause : (LogCause → Type 0) → Option LogCause → Type 0
-NamesCause fails found = IfSome found (IsCause fails)
+-- a service names a cause just where it ended because its journal failed: a call of the keeper failed for this cause, or the batches that it kept couldn't
+-- follow those of the history
+pub record NamesCause (fails : LogCause → Type 0) (outcome : Outcome) (found : Option LogCause) : Type 0 where
+  pub named : outcome ≡ Err JournalFailed → IsSome found
+  pub failed : IfSome found (λ cause. (outcome ≡ Err JournalFailed) × IsCause fails cause)
 
 -- the batches that were accepted: none where the map wasn't shared
 abbrev pub batches_of : Option (List (List ℕ)) → List (List ℕ)

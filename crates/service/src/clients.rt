@@ -1,13 +1,13 @@
-ghost use Rattle.std.specs.Prelude.{◌≡◌, ◌+◌, List, IfErr, IfOk, MatchOption, Ok, OnOk, length, true};
+ghost use Rattle.std.specs.Prelude.{◌≡◌, ◌+◌, List, IfErr, IfOk, IsErr, IsSome, MatchOption, OnOk, length, true};
 ghost use Rattle.eventloop.specs.Working.{BeganWith};
 ghost use Rattle.network.specs.Ports.{HasAccepted, HasCalled, PortEvent};
-ghost use Rattle.network.specs.Announcing.{GoesOnAfter, is_service_failure};
+ghost use Rattle.network.specs.Announcing.{is_resource_failure};
 ghost use Rattle.network.specs.declared.logging.LoggedPoller.{LoggedPoller};
 ghost use Rattle.network.specs.Times.{IsTimed};
 ghost use Rattle.service.specs.Serving.{AreHandedOver, WereServed};
 ghost use Rattle.turns.specs.declared.times.Timeouts.{Timeouts as Times};
 
-use crate::flags::{Flag, Stopped};
+use crate::flags::{Flag, IsSet, Left, Over, Stopped};
 use crate::started::Starting;
 use accesslog::{EndsEarly, LogQueue, LoggedTransport};
 use commandline::Service;
@@ -51,7 +51,7 @@ where
     R: Runtime,
     T: Transport + Send + Drop + 'static,
     Q: Poller<T> + Send + Drop + 'static,
-    ensures failed { IfErr result (λ failure. is_service_failure failure ≡ true) }
+    ensures failed { IfErr result (λ failure. is_resource_failure failure ≡ true) }
     ensures began { BeganWith capacity.timeouts workers.old.threads.items → BeganWith capacity.timeouts workers.new.threads.items }
     ensures all { OnOk result (length workers.new.threads.items ≡ length workers.old.threads.items + length seats.readers.items) }
     ensures count { workers.new.count ≡ workers.old.count }
@@ -143,7 +143,7 @@ where
     ensures accepted { (events : List PortEvent)
         × HasAccepted (P.log port.old.port.port) (P.log port.new.port.port) port.old.remaining port.new.remaining events
         × AreHandedOver workers.old.count events workers.new.count }
-    ensures failed { IfErr result (λ failure. is_service_failure failure ≡ true) }
+    ensures failed { IfErr result (λ failure. is_resource_failure failure ≡ true) }
     ensures threads { workers.new.threads ≡ workers.old.threads }
 {
     let mut acceptor = Acceptor::new();
@@ -193,7 +193,7 @@ where
     R: Runtime,
     T: Transport + Send + Drop + 'static,
     Q: Poller<T> + Send + Drop + 'static,
-    ensures failed { IfErr result (λ failure. is_service_failure failure ≡ true) }
+    ensures failed { IfErr result (λ failure. is_resource_failure failure ≡ true) }
     ensures began { IfOk result (λ workers. (times : Times) × IsTimed service times × BeganWith times workers.threads.items) }
     ensures all { IfOk result (λ workers. length workers.threads.items ≡ service.workers) }
 {
@@ -240,17 +240,29 @@ pub(crate) struct ClientFlags<'a> {
     pub is_stopped: &'a Flag<Stopped>,
 }
 
-/// The promise of the thread of clients: how it ends, and that its workers served, with these options.
+/// How the thread of clients ended, once it has told the thread of administrators.
+#[derive(Drop)]
+pub(crate) struct ClientsEnd {
+    /// How it ended.
+    pub outcome: Result<(), Failure>,
+    /// The thread of administrators was told that the port of clients isn't served any more.
+    pub left: IsSet<Left>,
+    /// It was told that the service ends, if it was.
+    pub over: Option<IsSet<Over>>,
+}
+
+/// The promise of the thread of clients: how it ends, whom it has told where it failed, and that its workers served, with these options.
 #[derive(Drop)]
 pub(crate) struct ServesClients<S, R, T, Q> {
     pub service: Service,
     pub of: PhantomData<(S, R, T, Q)>,
 }
 
-impl<S: Sharing, R: Runtime, T: Transport + Drop, Q> Promise<Result<(), Failure>>
+impl<S: Sharing, R: Runtime, T: Transport + Drop, Q> Promise<ClientsEnd>
     for ServesClients<S, R, T, Q> {
-    ghost kept_by = { λ promise left. GoesOnAfter (Ok tt) left
-        × WereServed (LoggedPoller Q) ⟦<LoggedTransport<T, R> as Transport>⟧ S.opening promise.service left };
+    ghost kept_by = { λ promise end. IfErr end.outcome (λ failure. is_resource_failure failure ≡ true)
+        × (IsErr end.outcome → IsSome end.over)
+        × WereServed (LoggedPoller Q) ⟦<LoggedTransport<T, R> as Transport>⟧ S.opening promise.service end.outcome };
 }
 
 /// Answers the connections of clients by a worker for each reader, up to the last. Those that came are answered to their end. Where the thread has to
@@ -269,7 +281,7 @@ where
     T: Transport + Send + Drop + 'static,
     P: Port<C> + Drop,
     Q: Poller<T> + Send + Drop + 'static,
-    ensures ends { GoesOnAfter (Ok tt) result }
+    ensures failed { IfErr result (λ failure. is_resource_failure failure ≡ true) }
     ensures clients { WereServed (LoggedPoller Q) ⟦<LoggedTransport<T, R> as Transport>⟧ S.opening side.service result }
 {
     let ClientSide {

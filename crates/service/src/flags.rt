@@ -15,6 +15,12 @@ pub(crate) struct Stopped;
 /// The purpose of a flag: the input with whose end the service ends could not be read.
 pub(crate) struct Unread;
 
+/// That the flag of the purpose K was set. Nothing but `Flag::set` gives one.
+#[derive(Drop)]
+pub(crate) struct IsSet<K> {
+    purpose: PhantomData<K>,
+}
+
 /// A flag for the purpose K alone, so that no thread takes one for another.
 #[derive(Drop)]
 pub(crate) struct Flag<K> {
@@ -32,8 +38,11 @@ impl<K> Flag<K> {
     }
 
     /// Sets it.
-    pub fn set(&self) {
+    pub fn set(&self) -> IsSet<K> {
         self.is_set.store(true, Ordering::SeqCst);
+        IsSet {
+            purpose: PhantomData,
+        }
     }
 
     /// Whether it is set.

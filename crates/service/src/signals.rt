@@ -1,9 +1,9 @@
 //! The signals between the threads of a service: that no more clients are served, and that the input ended.
 
 ghost use Rattle.std.specs.Prelude.{◌≡◌, IfErr, IfOk, true};
-ghost use Rattle.network.specs.Announcing.{is_service_failure};
+ghost use Rattle.network.specs.Announcing.{is_resource_failure};
 
-use crate::flags::{Flag, Left, Over, Stopped, Unread};
+use crate::flags::{Flag, IsSet, Left, Over, Stopped, Unread};
 use crate::started::Starting;
 use console::Failure;
 use eventloop::Wakes;
@@ -23,11 +23,12 @@ pub(crate) struct StopSignal<K, W: Wakes> {
 
 impl<K, W: Wakes> StopSignal<K, W> {
     /// Gives the signal, and ends the wait for a connection.
-    pub fn give(&self) {
-        self.flag.set();
+    pub fn give(&self) -> IsSet<K> {
+        let is_set = self.flag.set();
         if let Some(waker) = &self.waker {
             waker.wake();
         }
+        is_set
     }
 }
 
@@ -90,7 +91,7 @@ where
     R: Runtime,
     W: Wakes + Send + Drop + 'static,
     I: Read + Send + Drop + 'static,
-    ensures failed { IfErr result (λ failure. is_service_failure failure ≡ true) }
+    ensures failed { IfErr result (λ failure. is_resource_failure failure ≡ true) }
 {
     let Some(Until { waker, input }) = until else {
         return Ok(());
@@ -231,7 +232,7 @@ where
     R: Runtime,
     W: Wakes + Send + Drop + 'static,
     I: Read + Send + Drop + 'static,
-    ensures failed { IfErr result (λ failure. is_service_failure failure ≡ true) }
+    ensures failed { IfErr result (λ failure. is_resource_failure failure ≡ true) }
     ensures wakers { IfOk result (λ signals. (signals.clients.is_over.waker ≡ wakers.administration) × (signals.stop.waker ≡ wakers.clients)) }
 {
     let Wakers {

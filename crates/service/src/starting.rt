@@ -1,13 +1,13 @@
 //! The threads of a service: that of clients and that of the input with whose end it ends.
 
-ghost use Rattle.std.specs.Prelude.{◌≡◌, IfErr, IfOk, Ok, true};
-ghost use Rattle.network.specs.Announcing.{GoesOnAfter, is_service_failure};
+ghost use Rattle.std.specs.Prelude.{◌≡◌, IfErr, IfOk, IsErr, IsSome, true};
+ghost use Rattle.network.specs.Announcing.{is_resource_failure};
 ghost use Rattle.network.specs.declared.logging.LoggedPoller.{LoggedPoller};
 ghost use Rattle.network.specs.Ports.{requested};
 ghost use Rattle.service.specs.Serving.{WereServed};
 
 use crate::administering::Administering;
-use crate::clients::{ClientFlags, ClientSide, ServesClients, serve_clients};
+use crate::clients::{ClientFlags, ClientSide, ClientsEnd, ServesClients, serve_clients};
 use crate::flags::{Flag, Stopped, Unread};
 use crate::signals::{ClientSignals, StopSignal, Wakers, signals_of};
 use crate::started::Starting;
@@ -25,18 +25,16 @@ use std::thread::{self, PromisedHandle};
 use turns::Transport;
 
 /// The thread of clients, which promises how it ends.
-pub(crate) type ClientsThread<S, R, T, Q> = PromisedHandle<
-    Result<(), Failure>,
-    ServesClients<S, R, T, Q>,
->;
+pub(crate) type ClientsThread<S, R, T, Q> = PromisedHandle<ClientsEnd, ServesClients<S, R, T, Q>>;
 
-// Answers the connections of clients, up to the last. Where that fails or stops, the thread of administrators gets the signal.
+// Answers the connections of clients, up to the last. The thread of administrators is told then that their port isn't served any more, and, where that
+// fails or has to stop, that the service ends.
 fn serve_all<S, R, C, T, P, Q, W>(
     rt: &R,
     readers: Vec<Reader<S>>,
     side: ClientSide<P, Q, R>,
     signals: &ClientSignals<W>,
-) -> Result<(), Failure>
+) -> ClientsEnd
 where
     S: Sharing + Send + Sync + 'static,
     R: Runtime,
@@ -45,19 +43,29 @@ where
     P: Port<C> + Drop,
     Q: Poller<T> + Send + Drop + 'static,
     W: Wakes,
-    ensures ends { GoesOnAfter (Ok tt) result }
-    ensures clients { WereServed (LoggedPoller Q) ⟦<LoggedTransport<T, R> as Transport>⟧ S.opening side.service result }
+    ensures failed { IfErr result.outcome (λ failure. is_resource_failure failure ≡ true) }
+
+    // Without that the thread of administrators would wait for a connection, and the service wouldn't end.
+    ensures told { IsErr result.outcome → IsSome result.over }
+
+    ensures clients { WereServed (LoggedPoller Q) ⟦<LoggedTransport<T, R> as Transport>⟧ S.opening side.service result.outcome }
 {
     let flags = ClientFlags {
         starting: &signals.starting,
         is_stopped: &signals.is_stopped,
     };
-    let served = serve_clients::<S, R, C, T, P, Q>(rt, readers, side, flags);
-    signals.is_left.set();
-    if served.is_err() || signals.is_stopped.is_set() {
-        signals.is_over.give();
+    let outcome = serve_clients::<S, R, C, T, P, Q>(rt, readers, side, flags);
+    let left = signals.is_left.set();
+    let over = if outcome.is_err() || signals.is_stopped.is_set() {
+        Some(signals.is_over.give())
+    } else {
+        None
+    };
+    ClientsEnd {
+        outcome,
+        left,
+        over,
     }
-    served
 }
 
 // Starts the thread that accepts the connections of clients.
@@ -75,7 +83,7 @@ where
     P: Port<C> + Send + Drop + 'static,
     Q: Poller<T> + Send + Drop + 'static,
     W: Wakes + Send + Drop + 'static,
-    ensures failed { IfErr result (λ failure. is_service_failure failure ≡ true) }
+    ensures failed { IfErr result (λ failure. is_resource_failure failure ≡ true) }
     ensures promised { IfOk result (λ thread. thread.promise.service ≡ side.service) }
 {
     let handle = *rt;
@@ -152,13 +160,14 @@ fn started_clients<S: Sharing, R: Runtime, T: Transport + Drop, Q: Drop>(
     starting: &Starting,
     clients: ClientsThread<S, R, T, Q>,
 ) -> Result<ClientsThread<S, R, T, Q>, Failure>
-    ensures failed { IfErr result (λ failure. is_service_failure failure ≡ true) }
+    ensures failed { IfErr result (λ failure. is_resource_failure failure ≡ true) }
     ensures same { IfOk result (λ thread. thread ≡ clients) }
 {
     if starting.wait(rt) {
         return Ok(clients);
     }
-    match clients.join(rt) {
+    let end = clients.join(rt);
+    match end.outcome {
         Err(Failure::NoMemory) => Err(Failure::NoMemory),
         _ => Err(Failure::SocketFailed),
     }
@@ -171,7 +180,7 @@ pub(crate) fn start_sides<S: Sharing + Send + Sync + 'static, R: Runtime, N: Net
     ports: Ports<N::Port, N::Waker, N::Poller, N::Input>,
     logs: Logs<R>,
 ) -> Result<Started<S, R, N>, Failure>
-    ensures failed { IfErr result (λ failure. is_service_failure failure ≡ true) }
+    ensures failed { IfErr result (λ failure. is_resource_failure failure ≡ true) }
     ensures promised { IfOk result (λ started. started.clients.promise.service ≡ ports.service) }
 {
     let (wakers, side, port) = sides_of::<N, R>(ports, logs.clients);

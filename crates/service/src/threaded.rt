@@ -61,7 +61,7 @@ where
     ensures kept { (kept : List (List ℕ)) → K.keeps keeper.old kept → (result.1.outcome ≡ Err Failure.JournalFailed → ⊥)
         → IsKeptSince K.keeps admin kept result.0 keeper.new }
     ensures crash { NoneLost ⟦<K as Keeps>⟧ S.opening admin keeper.old result.0 keeper.new }
-    ensures cause { NamesCause K.fails result.1.cause }
+    ensures cause { NamesCause K.fails result.1.outcome result.1.cause }
     ensures clients { WereServed (LoggedPoller N.Poller) ⟦<LoggedTransport<N::Transport, R> as Transport>⟧ S.opening started.clients.promise.service
         result.1.outcome }
 {
@@ -81,7 +81,7 @@ where
         stop.give();
     }
     let served = clients.join(rt);
-    let end = end_of(kept, has_failed.is_set(), served);
+    let end = end_of(kept, has_failed.is_set(), served.outcome);
     (admin, end)
 }
 
@@ -145,7 +145,7 @@ where
     ensures kept { (kept : List (List ℕ)) → K.keeps keeper.old kept → (result.1.outcome ≡ Err Failure.JournalFailed → ⊥)
         → IsKeptSince K.keeps opened.admin kept result.0 keeper.new }
     ensures crash { NoneLost ⟦<K as Keeps>⟧ S.opening opened.admin keeper.old result.0 keeper.new }
-    ensures cause { NamesCause K.fails result.1.cause }
+    ensures cause { NamesCause K.fails result.1.outcome result.1.cause }
     ensures clients { WereServed (LoggedPoller N.Poller) ⟦<LoggedTransport<N::Transport, R> as Transport>⟧ S.opening opened.ports.service result.1.outcome }
 {
     let Opened {
@@ -190,7 +190,7 @@ where
     ensures kept { (kept : List (List ℕ)) → K.keeps keeper.old kept → (result.1.outcome ≡ Err Failure.JournalFailed → ⊥)
         → IsKeptSince K.keeps opened.admin kept result.0 keeper.new }
     ensures crash { NoneLost ⟦<K as Keeps>⟧ S.opening opened.admin keeper.old result.0 keeper.new }
-    ensures cause { NamesCause K.fails result.1.cause }
+    ensures cause { NamesCause K.fails result.1.outcome result.1.cause }
     ensures clients { WereServed (LoggedPoller N.Poller) ⟦<LoggedTransport<N::Transport, R> as Transport>⟧ S.opening opened.ports.service result.1.outcome }
 {
     if !opened.ports.service.logs {
@@ -243,7 +243,7 @@ where
         → K.keeps result.last (batches ++ result.accepted) }
     ensures accepted { IsSome (after accepted S.opening result.accepted) }
     ensures crash { LosesNone ⟦<K as Keeps>⟧ S.opening map.kept.keeper result.last }
-    ensures cause { NamesCause K.fails result.cause }
+    ensures cause { NamesCause K.fails result.outcome result.cause }
     ensures clients { WereServed (LoggedPoller N.Poller) ⟦<LoggedTransport<N::Transport, R> as Transport>⟧ S.opening ports.service result.outcome }
 {
     let UnsharedMap { kept, blank } = map;
@@ -293,8 +293,8 @@ pub fn serve_by_threads<R: Runtime, N: Network, K: Keeps + Drop, O: Sink>(
     // Whatever a crash leaves stands for the batches that were kept, and some that are accepted after them.
     ensures crash { LosesNone ⟦<K as Keeps>⟧ kept.machine kept.keeper result.last }
 
-    // Where the keeper failed, a call of it did.
-    ensures cause { NamesCause K.fails result.cause }
+    // It ends because its journal failed just where a call of the keeper did, or the history has other batches; and names the cause then.
+    ensures cause { NamesCause K.fails result.outcome result.cause }
 
     // All workers answered their clients, as readers of this map.
     ensures clients { WereServed (LoggedPoller N.Poller) ⟦<LoggedTransport<N::Transport, R> as Transport>⟧ kept.machine ports.service result.outcome }

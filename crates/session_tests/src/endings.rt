@@ -1,4 +1,4 @@
-use crate::memory::{Memory, SomeFiles, stream_of};
+use crate::memory::{Memory, MemoryFile, SomeFiles, stream_of};
 use crate::texts::{columns, spelt};
 use console::{Console, Failure, ReadFault};
 use std::alloc::{AllocError, Global};
@@ -14,8 +14,8 @@ type Stream<'a> = Flagged<Memory<'a>>;
 fn performed(
     alloc: Global,
     subcommand: &str,
-    job: &mut Job<'_, SomeFiles, Stream<'_>>,
-    script: &mut NamedFile<'_, Stream<'_>>,
+    job: &mut Job<'_, SomeFiles, MemoryFile<'_>>,
+    script: &mut NamedFile<'_, MemoryFile<'_>>,
     console: &mut Console<Stream<'_>, Stream<'_>, Stream<'_>>,
 ) -> Result<(), Failure> {
     match subcommand {
@@ -58,13 +58,17 @@ pub fn ended(
         folder: &SomeFiles,
         mapfile: NamedFile {
             name,
-            reader: stream_of(alloc, texts.0, at_once, call_of(failing, 0)),
+            reader: MemoryFile {
+                stream: stream_of(alloc, texts.0, at_once, call_of(failing, 0)),
+            },
         },
         explains: subcommand == "explain" || subcommand == "run_explained",
     };
     let mut script = NamedFile {
         name: "s.txt",
-        reader: stream_of(alloc, texts.1, at_once, None),
+        reader: MemoryFile {
+            stream: stream_of(alloc, texts.1, at_once, None),
+        },
     };
     let input = if is_session { texts.0 } else { "" };
     let mut console = Console {
@@ -73,7 +77,10 @@ pub fn ended(
         errors: stream_of(alloc, "", at_once, call_of(failing, 2)),
     };
     let outcome = performed(alloc, subcommand, &mut job, &mut script, &mut console);
-    let (input, mapfile) = (console.input.into_inner(), job.mapfile.reader.into_inner());
+    let (input, mapfile) = (
+        console.input.into_inner(),
+        job.mapfile.reader.stream.into_inner(),
+    );
     let read = if is_session {
         input.calls
     } else {

@@ -4,7 +4,7 @@ use crate::shelf::{Counts, Shelf, no_counts};
 use crate::texts::{columns, spelt};
 use console::Console;
 use network::Runtime;
-use program::{ArgumentsUnread, Program};
+use program::{ArgumentsUnread, Host, Program};
 use std::alloc::{AllocError, Global};
 use std::str;
 use std::sync::Arc;
@@ -91,6 +91,30 @@ fn result_of_counts(alloc: Global, counts: &Counts) -> Result<String, AllocError
     )
 }
 
+/// How the program ends on a host, and the output and the errors with `|` between them. The input is a mapfile without layers.
+pub(crate) fn run_on<R: Runtime, H: Host>(
+    rt: &R,
+    host: &H,
+    arguments: Result<Vec<String>, ArgumentsUnread>,
+) -> Result<(String, String), AllocError> {
+    let alloc = rt.alloc();
+    let program = Program { rt: *rt, host };
+    let mut console = Console {
+        input: stream_of(alloc, "MAP END", 7, None),
+        output: stream_of(alloc, "", 7, None),
+        errors: stream_of(alloc, "", 7, None),
+    };
+    let ending = program.answer(arguments, &mut console);
+    let end = end_of(alloc, ending.outcome())?;
+    let (output, errors) = (console.output.into_inner(), console.errors.into_inner());
+    let written = format!(in alloc;
+        "{}|{}",
+        str::from_utf8(&output.held).unwrap_or("?"),
+        str::from_utf8(&errors.held).unwrap_or("?")
+    )?;
+    Ok((end, written))
+}
+
 /// How the program ends on a host whose ports have those letters, what the host counted, and the output and the errors
 /// with `|` between them. The input is a mapfile without layers.
 pub(crate) fn run_program<R: Runtime>(
@@ -109,23 +133,7 @@ pub(crate) fn run_program<R: Runtime>(
         administration,
         counts: Arc::try_clone(&counts)?,
     };
-    let program = Program {
-        rt: *rt,
-        host: &host,
-    };
-    let mut console = Console {
-        input: stream_of(alloc, "MAP END", 7, None),
-        output: stream_of(alloc, "", 7, None),
-        errors: stream_of(alloc, "", 7, None),
-    };
-    let ending = program.answer(arguments, &mut console);
-    let end = end_of(alloc, ending.outcome())?;
-    let (output, errors) = (console.output.into_inner(), console.errors.into_inner());
-    let written = format!(in alloc;
-        "{}|{}",
-        str::from_utf8(&output.held).unwrap_or("?"),
-        str::from_utf8(&errors.held).unwrap_or("?")
-    )?;
+    let (end, written) = run_on(rt, &host, arguments)?;
     Ok((end, counts, written))
 }
 

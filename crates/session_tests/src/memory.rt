@@ -1,12 +1,13 @@
 ghost use Rattle.std.specs.Prelude.{◌≡◌};
 
+use console::{ReadFault, Reads, read_all};
 use mapdefs::Items;
 use std::alloc::{AllocError, Global};
 use std::io::{self, Read, Write};
 use streams::Flagged;
-use subcommands::{Folder, HasCause, LookedFor, UnreadCause};
+use subcommands::{FileFault, FileReader, Folder, LookedFor, UnreadCause};
 
-/// A stream in memory: it gives and takes so many bytes at once, and one of its calls fails, as one that isn't allowed.
+/// A stream in memory: it gives and takes so many bytes at once, and one of its calls fails.
 #[derive(Drop)]
 pub struct Memory<'a> {
     left: &'a [u8],
@@ -60,13 +61,26 @@ impl Read for Memory<'_> {
     }
 }
 
-impl HasCause for Memory<'_> {
+/// A file in memory. Where its stream fails, it may not be read.
+#[derive(Drop)]
+pub struct MemoryFile<'a> {
+    /// Its stream.
+    pub stream: Flagged<Memory<'a>>,
+}
+
+impl<'a> FileReader for MemoryFile<'a> {
     ghost use Rattle.subcommands.specs.declared.unread.UnreadCause.TheVariants.{NotAllowed};
 
-    ghost cause = { λ _. NotAllowed };
+    ghost state = { λ file. ⟦<Flagged<Memory<'a>> as Reads>⟧.state file.stream };
 
-    fn cause(&self) -> UnreadCause {
-        UnreadCause::NotAllowed
+    ghost unread_for = { λ _ cause. cause ≡ NotAllowed };
+
+    fn read_rest(&mut self, alloc: Global) -> Result<Vec<u8>, FileFault> {
+        match read_all(alloc, &mut self.stream) {
+            Ok(bytes) => Ok(bytes),
+            Err(ReadFault::Input) => Err(FileFault::Unread(UnreadCause::NotAllowed)),
+            Err(ReadFault::NoMemory) => Err(FileFault::NoMemory),
+        }
     }
 }
 

@@ -18,8 +18,8 @@ use std::alloc::{AllocError, Global};
 use std::io::{self, BufReader, Read, Write};
 use std::sync::Arc;
 use std::sync::atomic::{AtomicU64, Ordering};
-use std::thread;
 use std::time::Duration;
+use std::{str, thread};
 use streams::Flagged;
 use turns::{ReadOutcome, Transport, WriteOutcome};
 
@@ -40,7 +40,7 @@ pub struct Counts {
     pub woken: AtomicU64,
     /// Ends of a wait for a client.
     pub stopped: AtomicU64,
-    /// The sum of the sequences that administrators got, of 1 and 2.
+    /// The sum of the sequences that administrators got.
     pub published: AtomicU64,
     /// How often administrators got the line that a batch isn't kept.
     pub failed: AtomicU64,
@@ -65,6 +65,15 @@ impl Write for Counted {
     }
 }
 
+// The sequence in the line that a batch is published.
+fn published_in(held: &[u8]) -> Option<u64> {
+    let line = str::from_utf8(held).ok()?;
+    line.strip_prefix("PUBLISHED ")?
+        .strip_suffix("\n")?
+        .parse()
+        .ok()
+}
+
 // Counts the end of a connection whose client got these bytes.
 fn count_end(counts: &Counts, held: &[u8], fault: Option<EdgeFault>) {
     match fault {
@@ -74,17 +83,15 @@ fn count_end(counts: &Counts, held: &[u8], fault: Option<EdgeFault>) {
         None if held == b"IDLE\n".as_slice() => {
             counts.idle.fetch_add(1, Ordering::SeqCst);
         }
-        None if held == b"PUBLISHED 1\n".as_slice() => {
-            counts.published.fetch_add(1, Ordering::SeqCst);
-        }
-        None if held == b"PUBLISHED 2\n".as_slice() => {
-            counts.published.fetch_add(2, Ordering::SeqCst);
-        }
         None if held == b"FAILED\n".as_slice() => {
             counts.failed.fetch_add(1, Ordering::SeqCst);
         }
         Some(EdgeFault::Read { .. }) if held.is_empty() => {
             counts.unread.fetch_add(1, Ordering::SeqCst);
+        }
+        None => {
+            let published = published_in(held).unwrap_or(0);
+            counts.published.fetch_add(published, Ordering::SeqCst);
         }
         _ => {}
     }
@@ -393,6 +400,8 @@ impl Files for Shelf<'_> {
 
     ghost file = { λ _ _. None };
 
+    ghost withholds = { λ _ _ _. Unit {0} };
+
     fn open(&self, path: &str) -> io::Result<Memory<'static>> {
         for (name, text) in FILES {
             if name == path {
@@ -405,6 +414,15 @@ impl Files for Shelf<'_> {
             _ => io::ErrorKind::NotFound,
         }))
     }
+
+    fn read_on(
+        &self,
+        _path: &str,
+        opened: &mut Memory<'static>,
+        room: &mut [u8],
+    ) -> io::Result<usize> {
+        opened.read(room)
+    }
 }
 
 // The error that a port can't be listened on.
@@ -416,6 +434,8 @@ impl Host for Shelf<'_> {
     type Log = ShelfLog;
 
     ghost journal = { λ _ _ _. Unit {0} };
+
+    ghost unopened = { λ _ _ _. Unit {0} };
 
     ghost listens = { λ _ _ _. Unit {0} };
 

@@ -4,5 +4,6 @@ pub mod Lines
 pub mod Mapfiles
 pub mod Parts
 pub mod Reports
+pub mod Unread
 pub mod Session
 pub mod Summary

@@ -10,10 +10,10 @@ use Rattle.batches.specs.Batch.{State}
 use Rattle.mapwords.specs.declared.fault.Fault.{Fault}
 use Rattle.mapwords.specs.Fault.{number_of}
 use Rattle.mapparse.specs.declared.files.FileBytes.{FileBytes}
-use Rattle.mapfaults.specs.Warning.{warning_lines}
+use Rattle.mapwarnings.specs.Lines.{warning_lines}
 use Rattle.subcommands.specs.Explained.{IsExplained}
 use Rattle.subcommands.specs.Folder.{Giving, ComesTo}
-use Rattle.subcommands.specs.Reports.{ReadFile, file_fault, mapfile_fault}
+use Rattle.subcommands.specs.Reports.{ReadFile, IsFileReported, mapfile_fault}
 use Rattle.subcommands.specs.Session.{Ends, opened}
 use Rattle.subcommands.specs.Summary.{summary_line, HasPartlySummed}
 
@@ -49,7 +49,7 @@ pub record TouchesNeither (failure : Failure) : Type 0 where
 
 -- a file was not read: that was reported, or memory was refused and nothing was reported
 abbrev pub IsUnread : Bool → Failure → ReadFile → WriterState → WriterState → Type 0
-IsUnread explains FileFailed file old new = IsReported old new (file_fault explains file)
+IsUnread explains FileFailed file old new = IsFileReported explains file old new
 IsUnread explains NoMemory file old new = Keeps old.held new.held
 IsUnread explains _ file old new = ⊥
 
@@ -119,7 +119,7 @@ ChecksTo job (Err failure) file rest old new =
     Keeps old.output.held new.output.held × GivesNoMap job failure file rest old.errors new.errors
 
 -- the mapfile and the script of a run, as they are reported
-pub record RunFiles : Type 0 where
+pub record RunFiles : Type 1 where
   pub mapfile : ReadFile
   pub script : ReadFile
 
@@ -163,7 +163,7 @@ RunsTo job (Err failure) files readings old new =
 pub record ReportsScript (explains : Bool) (name : List ℕ) (script : ReadFile) (old new : WriterState) : Type 0 where
   pub map : MapFields
   pub warned : IsWarned explains name map old
-  pub reported : IsReported warned.errors new (file_fault explains script)
+  pub reported : IsFileReported explains script warned.errors new
 
 -- the readers of a mapfile and of a script, before and after
 pub record Readers : Type 0 where
@@ -176,7 +176,7 @@ pub record Readers : Type 0 where
 -- the script, its reader has failed, and that of the mapfile has not
 abbrev pub ReportsUnread : Bool → RunFiles → WriterState → WriterState → Readers → Type 0 → Type 0
 ReportsUnread explains files old new readers untouched =
-    (IsReported old new (file_fault explains files.mapfile) × (readers.mapfile_after.failed ≡ true) × untouched)
+    (IsFileReported explains files.mapfile old new × (readers.mapfile_after.failed ≡ true) × untouched)
     ⊎ (ReportsScript explains files.mapfile.name files.script old new × (readers.script_after.failed ≡ true)
     × (readers.mapfile_after.failed ≡ readers.mapfile_before.failed))
 

@@ -1,6 +1,7 @@
 -- Reports of faults (docs/SERVICE.md, "The program" and "Sessions").
 use Rattle.std.specs.Prelude.{ℕ, Bool, true, false, List, ◌++◌, codes}
 use Rattle.std.specs.Fmt.{decimal}
+use Rattle.console.specs.Console.{WriterState, IsReported}
 use Rattle.subcommands.specs.declared.unread.UnreadCause.{UnreadCause}
 use Rattle.subcommands.specs.declared.unread.UnreadCause.TheVariants.{Missing, NotAllowed, Other}
 
@@ -20,15 +21,19 @@ place_words Other = codes " can't be read"
 abbrev pub place_message : List ℕ → UnreadCause → List ℕ
 place_message path cause = codes ": " ++ (path ++ place_words cause)
 
--- a file that is read by its name, and why it can't be read, if it can't
-pub record ReadFile : Type 0 where
+-- a file that is read by its name, and the causes for which it may not be read
+pub record ReadFile : Type 1 where
   pub name : List ℕ
-  pub cause : UnreadCause
+  pub unread_for : UnreadCause → Type 0
 
 -- a file that can't be read, by its name; where `explains` is true, a second line says why
-abbrev pub file_fault : Bool → ReadFile → List ℕ
-file_fault false file = codes "fault file " ++ (file.name ++ codes "\n")
-file_fault true file = codes "fault file " ++ (file.name ++ (codes "\n" ++ (file.name ++ cause_message file.cause)))
+abbrev pub file_fault : Bool → List ℕ → UnreadCause → List ℕ
+file_fault false name cause = codes "fault file " ++ (name ++ codes "\n")
+file_fault true name cause = codes "fault file " ++ (name ++ (codes "\n" ++ (name ++ cause_message cause)))
+
+-- that was reported, with a cause for which it may not be read
+abbrev pub IsFileReported : Bool → ReadFile → WriterState → WriterState → Type 0
+IsFileReported explains file old new = (cause : UnreadCause) × file.unread_for cause × IsReported old new (file_fault explains file.name cause)
 
 -- the fault of a mapfile, by its line and the number of its kind
 abbrev pub mapfile_fault : ℕ → ℕ → List ℕ

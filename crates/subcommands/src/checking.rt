@@ -7,8 +7,8 @@ use crate::folder::Folder;
 use crate::job::Job;
 use crate::map_summary::summary;
 use crate::reading::{read_explained, report_warnings};
-use crate::unread::HasCause;
-use console::{Console, Failure, Reads, Terminal, Writes, flush};
+use crate::unread::FileReader;
+use console::{Console, Failure, Terminal, Writes, flush};
 use mapdefs::Map;
 use std::alloc::Global;
 use streams::{Sink, Source};
@@ -28,18 +28,18 @@ pub fn write_summary<O: Sink>(map: &Map, output: &mut O) -> Result<(), Failure>
 /// can't be read. Where the job has `explains`, a fault is reported with a message, or the cause why the file can't be
 /// read. The warnings on the map are reported after its line. A message or warnings for which memory is refused are
 /// left out.
-pub fn check<F: Folder, I: Source + HasCause, J: Source, O: Sink, E: Sink>(
+pub fn check<F: Folder, I: FileReader, J: Source, O: Sink, E: Sink>(
     alloc: Global,
     job: &mut Job<'_, F, I>,
     console: &mut Console<J, O, E>,
 ) -> Result<(), Failure>
     ensures checks { ChecksTo (record { gives = F.gives job.old.folder.now; explains = job.old.explains }) result
-        (record { name = job.old.mapfile.name.now; cause = I.cause job.new.mapfile.reader })
-        (record { before = I.left job.old.mapfile.reader; after = I.left job.new.mapfile.reader })
+        (record { name = job.old.mapfile.name.now; unread_for = I.unread_for job.old.mapfile.reader })
+        (record { before = (I.state job.old.mapfile.reader).left; after = (I.state job.new.mapfile.reader).left })
         (⟦<Console<J, O, E> as Terminal>⟧.streams console.old) (⟦<Console<J, O, E> as Terminal>⟧.streams console.new) }
     ensures input { console.new.input ≡ console.old.input }
     ensures file { LeavesFile result
-        (⟦<I as Reads>⟧.state job.old.mapfile.reader) (⟦<I as Reads>⟧.state job.new.mapfile.reader) }
+        (I.state job.old.mapfile.reader) (I.state job.new.mapfile.reader) }
     ensures leaves { Leaves result
         (⟦<Console<J, O, E> as Terminal>⟧.streams console.old) (⟦<Console<J, O, E> as Terminal>⟧.streams console.new) }
 {

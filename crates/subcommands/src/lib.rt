@@ -31,4 +31,4 @@ pub use playing::session;
 pub use reading::{ReadMap, read_map};
 pub use running::run;
 pub use scripts::play_script;
-pub use unread::{HasCause, UnreadCause};
+pub use unread::{FileFault, FileReader, UnreadCause};

@@ -9,13 +9,14 @@ use crate::job::{Job, NamedFile};
 use crate::map_fault::MapFault;
 use crate::places::file_message;
 use crate::reports::{report_explained, report_file};
-use crate::unread::HasCause;
-use console::{Failure, ReadFault, Reads, Writes, read_all, report};
+use crate::unread::{FileFault, FileReader};
+use console::{Failure, Writes, report};
 use mapdefs::{Map, Text};
-use mapfaults::{MapfileAtHand, message_on_source, warning_lines};
+use mapfaults::{MapfileAtHand, message_on_source};
 use mapparse::{Files, Mapfile, ParseFault, ParseKind};
+use mapwarnings::warning_lines;
 use std::alloc::Global;
-use streams::{Sink, Source};
+use streams::Sink;
 
 // The message on a fault of the text of a mapfile, where it is requested.
 fn source_message(alloc: Global, explains: bool, source: &[u8], fault: &ParseFault) -> Option<Text>
@@ -77,54 +78,54 @@ pub struct ReadMap {
 }
 
 /// The bytes of a file. One that can't be read is reported by its name, and, where that is requested, with the cause.
-pub fn read_file<I: Source + HasCause, E: Sink>(
+pub fn read_file<I: FileReader, E: Sink>(
     alloc: Global,
     explains: bool,
     file: &mut NamedFile<'_, I>,
     errors: &mut E,
 ) -> Result<Vec<u8>, Failure>
-    ensures bytes { IfOk result (λ bytes. HasReadFile (I.left file.old.reader) (I.left file.new.reader) bytes.items) }
+    ensures bytes { IfOk result (λ bytes. HasReadFile (I.state file.old.reader).left (I.state file.new.reader).left bytes.items) }
     ensures name { file.new.name.now ≡ file.old.name.now }
     ensures same { OnOk result (errors.new ≡ errors.old) }
     ensures unread { IfErr result
-        (λ failure. IsUnread explains failure (record { name = file.old.name.now; cause = I.cause file.new.reader })
+        (λ failure. IsUnread explains failure (record { name = file.old.name.now; unread_for = I.unread_for file.old.reader })
         (⟦<E as Writes>⟧.state errors.old) (⟦<E as Writes>⟧.state errors.new)) }
     ensures neither { IfErr result TouchesNeither }
-    ensures leaves { LeavesFile result (⟦<I as Reads>⟧.state file.old.reader) (⟦<I as Reads>⟧.state file.new.reader) }
+    ensures leaves { LeavesFile result (I.state file.old.reader) (I.state file.new.reader) }
 {
-    match read_all(alloc, &mut file.reader) {
+    match file.reader.read_rest(alloc) {
         Ok(bytes) => Ok(bytes),
-        Err(ReadFault::Input) => {
-            report_file(errors, explains, file.name, file.reader.cause());
+        Err(FileFault::Unread(cause)) => {
+            report_file(errors, explains, file.name, cause);
             Err(Failure::FileFailed)
         }
-        Err(ReadFault::NoMemory) => Err(Failure::NoMemory),
+        Err(FileFault::NoMemory) => Err(Failure::NoMemory),
     }
 }
 
 /// The map of a mapfile, with its bytes and its files. Its fault is reported, or that it can't be read; where the job has `explains`, a second line
 /// has the message on it, unless memory is refused for that.
-pub fn read_explained<F: Folder, I: Source + HasCause, E: Sink>(
+pub fn read_explained<F: Folder, I: FileReader, E: Sink>(
     alloc: Global,
     job: &mut Job<'_, F, I>,
     errors: &mut E,
 ) -> Result<ReadMap, Failure>
     ensures map { IfOk result
         (λ read. HasReadMap (F.gives job.old.folder.now)
-        (I.left job.old.mapfile.reader) (I.left job.new.mapfile.reader) read.map) }
+        (I.state job.old.mapfile.reader).left (I.state job.new.mapfile.reader).left read.map) }
     ensures mapfile { IfOk result
-        (λ read. HasReadMapfile (F.gives job.old.folder.now) (I.left job.old.mapfile.reader)
-        (I.left job.new.mapfile.reader) read.source.items read.files read.map) }
+        (λ read. HasReadMapfile (F.gives job.old.folder.now) (I.state job.old.mapfile.reader).left
+        (I.state job.new.mapfile.reader).left read.source.items read.files read.map) }
     ensures job { (job.new.mapfile.name.now ≡ job.old.mapfile.name.now) × (job.new.explains ≡ job.old.explains) }
     ensures same { OnOk result (errors.new ≡ errors.old) }
     ensures without { IfErr result
         (λ failure. GivesNoMap (record { gives = F.gives job.old.folder.now; explains = job.old.explains }) failure
-        (record { name = job.old.mapfile.name.now; cause = I.cause job.new.mapfile.reader })
-        (record { before = I.left job.old.mapfile.reader; after = I.left job.new.mapfile.reader })
+        (record { name = job.old.mapfile.name.now; unread_for = I.unread_for job.old.mapfile.reader })
+        (record { before = (I.state job.old.mapfile.reader).left; after = (I.state job.new.mapfile.reader).left })
         (⟦<E as Writes>⟧.state errors.old) (⟦<E as Writes>⟧.state errors.new)) }
     ensures neither { IfErr result TouchesNeither }
     ensures leaves { LeavesFile result
-        (⟦<I as Reads>⟧.state job.old.mapfile.reader) (⟦<I as Reads>⟧.state job.new.mapfile.reader) }
+        (I.state job.old.mapfile.reader) (I.state job.new.mapfile.reader) }
 {
     let source = read_file(alloc, job.explains, &mut job.mapfile, errors)?;
     match read_map_of(alloc, job.folder, job.explains, &source) {
@@ -156,29 +157,29 @@ pub fn report_warnings<F, I, E: Sink>(alloc: Global, job: &Job<'_, F, I>, map: &
 
 /// The map of a mapfile, with its bytes and its files. A fault is reported. Where the job has `explains`, the report of a fault has a message, and
 /// the warnings on a map are reported, unless memory is refused for these.
-pub fn read_map<F: Folder, I: Source + HasCause, E: Sink>(
+pub fn read_map<F: Folder, I: FileReader, E: Sink>(
     alloc: Global,
     job: &mut Job<'_, F, I>,
     errors: &mut E,
 ) -> Result<ReadMap, Failure>
     ensures map { IfOk result
         (λ read. HasReadMap (F.gives job.old.folder.now)
-        (I.left job.old.mapfile.reader) (I.left job.new.mapfile.reader) read.map) }
+        (I.state job.old.mapfile.reader).left (I.state job.new.mapfile.reader).left read.map) }
     ensures mapfile { IfOk result
-        (λ read. HasReadMapfile (F.gives job.old.folder.now) (I.left job.old.mapfile.reader)
-        (I.left job.new.mapfile.reader) read.source.items read.files read.map) }
+        (λ read. HasReadMapfile (F.gives job.old.folder.now) (I.state job.old.mapfile.reader).left
+        (I.state job.new.mapfile.reader).left read.source.items read.files read.map) }
     ensures warnings { IfOk result
         (λ read. ReportsWarnings job.old.explains job.old.mapfile.name.now read.map
         (⟦<E as Writes>⟧.state errors.old) (⟦<E as Writes>⟧.state errors.new)) }
     ensures same { OnOk result (job.old.explains ≡ false → errors.new ≡ errors.old) }
     ensures without { IfErr result
         (λ failure. GivesNoMap (record { gives = F.gives job.old.folder.now; explains = job.old.explains }) failure
-        (record { name = job.old.mapfile.name.now; cause = I.cause job.new.mapfile.reader })
-        (record { before = I.left job.old.mapfile.reader; after = I.left job.new.mapfile.reader })
+        (record { name = job.old.mapfile.name.now; unread_for = I.unread_for job.old.mapfile.reader })
+        (record { before = (I.state job.old.mapfile.reader).left; after = (I.state job.new.mapfile.reader).left })
         (⟦<E as Writes>⟧.state errors.old) (⟦<E as Writes>⟧.state errors.new)) }
     ensures neither { IfErr result TouchesNeither }
     ensures leaves { LeavesFile result
-        (⟦<I as Reads>⟧.state job.old.mapfile.reader) (⟦<I as Reads>⟧.state job.new.mapfile.reader) }
+        (I.state job.old.mapfile.reader) (I.state job.new.mapfile.reader) }
 {
     let read = read_explained(alloc, job, errors)?;
     report_warnings(alloc, job, &read.map, errors);

@@ -1,7 +1,7 @@
 ghost use Rattle.std.specs.Prelude.{◌≡◌, ◌++◌, codes};
 ghost use Rattle.console.specs.Console.{IsReported};
 ghost use Rattle.subcommands.specs.Mapfiles.{explained_fault};
-ghost use Rattle.subcommands.specs.Reports.{ReadFile, cause_message, file_fault, mapfile_fault};
+ghost use Rattle.subcommands.specs.Reports.{cause_message, file_fault, mapfile_fault};
 
 use crate::unread::UnreadCause;
 use console::{Writes, report};
@@ -33,7 +33,7 @@ fn report_with_cause<'a, E: Sink>(errors: &mut E, name: &'a [u8], message: &'a [
 /// Reports a file that can't be read: its name, and, where that is requested, the cause.
 pub fn report_file<E: Sink>(errors: &mut E, explains: bool, name: &str, cause: UnreadCause)
     ensures { IsReported (⟦<E as Writes>⟧.state errors.old) (⟦<E as Writes>⟧.state errors.new)
-        (file_fault explains (record { name = name.now; cause = cause })) }
+        (file_fault explains name.now cause) }
 {
     if explains {
         report_with_cause(errors, name.as_bytes(), cause_message(cause).as_bytes());

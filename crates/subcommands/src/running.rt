@@ -8,8 +8,8 @@ use crate::folder::Folder;
 use crate::job::{Job, NamedFile};
 use crate::playing::play_on;
 use crate::reading::{read_file, read_map};
-use crate::unread::HasCause;
-use console::{Console, Failure, Reads, Terminal, Writes};
+use crate::unread::FileReader;
+use console::{Console, Failure, Terminal, Writes};
 use std::alloc::Global;
 use streams::{Sink, Source};
 
@@ -18,7 +18,7 @@ use streams::{Sink, Source};
 /// isn't read. Where the job has `explains`, a fault is reported with a message, or the cause why a file can't be read.
 /// The warnings on the map are reported before the script is read. A message or warnings for which memory is refused
 /// are left out.
-pub fn run<F: Folder, I: Source + HasCause, S: Source + HasCause, J: Source, O: Sink, E: Sink>(
+pub fn run<F: Folder, I: FileReader, S: FileReader, J: Source, O: Sink, E: Sink>(
     alloc: Global,
     job: &mut Job<'_, F, I>,
     script: &mut NamedFile<'_, S>,
@@ -26,12 +26,12 @@ pub fn run<F: Folder, I: Source + HasCause, S: Source + HasCause, J: Source, O: 
 ) -> Result<(), Failure>
     ensures runs { RunsTo (record { gives = F.gives job.old.folder.now; explains = job.old.explains }) result
         (record {
-          mapfile = record { name = job.old.mapfile.name.now; cause = I.cause job.new.mapfile.reader };
-          script = record { name = script.old.name.now; cause = S.cause script.new.reader };
+          mapfile = record { name = job.old.mapfile.name.now; unread_for = I.unread_for job.old.mapfile.reader };
+          script = record { name = script.old.name.now; unread_for = S.unread_for script.old.reader };
         })
         (record {
-          mapfile = record { before = I.left job.old.mapfile.reader; after = I.left job.new.mapfile.reader };
-          script = record { before = S.left script.old.reader; after = S.left script.new.reader };
+          mapfile = record { before = (I.state job.old.mapfile.reader).left; after = (I.state job.new.mapfile.reader).left };
+          script = record { before = (S.state script.old.reader).left; after = (S.state script.new.reader).left };
         })
         (⟦<Console<J, O, E> as Terminal>⟧.streams console.old) (⟦<Console<J, O, E> as Terminal>⟧.streams console.new) }
     ensures input { console.new.input ≡ console.old.input }
@@ -39,24 +39,24 @@ pub fn run<F: Folder, I: Source + HasCause, S: Source + HasCause, J: Source, O: 
         (λ failure. failure ≡ FileFailed
         → ReportsUnread job.old.explains
         (record {
-          mapfile = record { name = job.old.mapfile.name.now; cause = I.cause job.new.mapfile.reader };
-          script = record { name = script.old.name.now; cause = S.cause script.new.reader };
+          mapfile = record { name = job.old.mapfile.name.now; unread_for = I.unread_for job.old.mapfile.reader };
+          script = record { name = script.old.name.now; unread_for = S.unread_for script.old.reader };
         })
         (⟦<E as Writes>⟧.state console.old.errors) (⟦<E as Writes>⟧.state console.new.errors)
         (record {
-          mapfile_before = ⟦<I as Reads>⟧.state job.old.mapfile.reader;
-          mapfile_after = ⟦<I as Reads>⟧.state job.new.mapfile.reader;
-          script_before = ⟦<S as Reads>⟧.state script.old.reader;
-          script_after = ⟦<S as Reads>⟧.state script.new.reader;
+          mapfile_before = I.state job.old.mapfile.reader;
+          mapfile_after = I.state job.new.mapfile.reader;
+          script_before = S.state script.old.reader;
+          script_after = S.state script.new.reader;
         })
         (script.new ≡ script.old)) }
     ensures untouched { IfErr result (λ failure. failure ≡ MapfileFault → script.new ≡ script.old) }
     ensures files { LeavesFiles result
         (record {
-          mapfile_before = ⟦<I as Reads>⟧.state job.old.mapfile.reader;
-          mapfile_after = ⟦<I as Reads>⟧.state job.new.mapfile.reader;
-          script_before = ⟦<S as Reads>⟧.state script.old.reader;
-          script_after = ⟦<S as Reads>⟧.state script.new.reader;
+          mapfile_before = I.state job.old.mapfile.reader;
+          mapfile_after = I.state job.new.mapfile.reader;
+          script_before = S.state script.old.reader;
+          script_after = S.state script.new.reader;
         }) }
     ensures leaves { Leaves result
         (⟦<Console<J, O, E> as Terminal>⟧.streams console.old) (⟦<Console<J, O, E> as Terminal>⟧.streams console.new) }

@@ -6,6 +6,8 @@ use Rattle.journal.specs.Name.{name_bytes}
 use Rattle.journal.specs.Record.{header, journal_of, record_of, sequence_bytes}
 use Rattle.journalfile.specs.Compacting.{HasLeft}
 use Rattle.journalfile.specs.Frames.{IsAhead}
+use Rattle.journalfile.specs.Settled.{NotesLength}
+use Rattle.journalfile.specs.declared.writing.Journal.{Journal}
 use Rattle.journalfile.proofs.Batches.{Grows, grows_next, left_of_all, left_start}
 use Rattle.journalfile.proofs.Pieces.{read_more}
 use Rattle.journalfile.proofs.compacting.write_left.Goals as goal
@@ -24,6 +26,7 @@ loop-reader-init g c =
         c.in_ok-add_header.ensures.added reliable ∙ ap (λ (l : List ℕ). l ++ front) empty ∙ sym (append-nil front),
         c.in_ok-add_header.ensures.count ∙ c.requires.empty,
       );
+      noted = c.in_ok-add_header.ensures.noted;
       read = c.in_ok-reader.ensures.log;
     }
 
@@ -61,6 +64,12 @@ loop-reader-preserved g c =
             grown.0,
             grown.1,
           );
+      noted = λ reliable was.
+          let before = c.loop-reader.invariant.noted reliable was in
+          elim c.if-not-is_empty.branch [
+            | then-not-is_empty+in_ok-add_batch w ↦ subst (λ (j : Journal g.row.L.Denot). NotesLength g.L.Log.content j) (sym w.successor-is) (w.in_ok-add_batch.ensures.noted reliable before)
+            | else-not-is_empty w ↦ subst (λ (j : Journal g.row.L.Denot). NotesLength g.L.Log.content j) (sym w.successor-is) before
+          ];
       read = λ reliable. read_more g.L.Log.content g.L.Log.may_leave g.L.Log.moment g.L.Log.left_since c.args.log.now c.loop-reader.log c.next_left.new.log (c.loop-reader.invariant.read reliable) (c.in_ok-left.ensures.log reliable);
     }
 

@@ -6,6 +6,7 @@ use Rattle.journal.specs.Name.{name_bytes}
 use Rattle.journal.specs.Record.{journal_of}
 use Rattle.journalfile.specs.Compacting.{HasLeft}
 use Rattle.journalfile.specs.Frames.{IsAhead, IsRead}
+use Rattle.journalfile.specs.Settled.{NotesLength}
 use Rattle.journalfile.proofs.compacting.write_left.Given as goal
 
 -- the other journal has the batches left of those that were read
@@ -18,6 +19,7 @@ invariant-loop-reader g l = record {
       → AreLast l.changes (commands_of all)
       → (written : List (List ℕ)) × HasLeft (g.L.Log.content l.fn.log) all written l.reader
       × (g.L.Log.content l.successor.log ≡ journal_of sha256 (name_bytes l.fn.successor.name) written) × (l.successor.count ≡ length written);
+  noted : g.L.Log.reliable → NotesLength g.L.Log.content l.fn.successor → NotesLength g.L.Log.content l.successor;
   read : g.L.Log.reliable → IsRead g.L.Log.content g.L.Log.may_leave g.L.Log.moment g.L.Log.left_since l.fn.log l.log;
 }
 

@@ -1,10 +1,9 @@
-use Rattle.std.proofs.Common.{inl, inr, ℕ, ◌∙◌, ap}
+use Rattle.std.proofs.Common.{inl, inr, ℕ, ◌∙◌, ap, refl}
 use Rattle.std.proofs.lemmas.Result.{err_from_is_err_and}
 use Rattle.compaction.specs.Compacted.{skipping}
 use Rattle.journal.specs.Name.{skipped_of}
 use Rattle.subcommands.specs.Session.{opened}
-use Rattle.program.proofs.Journals.{erased-fault, erased-is, erased-name}
-use Rattle.program.specs.Journals.{erased}
+use Rattle.program.proofs.Journals.{fault-of-given}
 use Rattle.program.proofs.keeping.open_journal.Goals as goal
 
 pub returns-in_err-name-clause-fault : goal.returns-in_err-name-clause-fault
@@ -16,9 +15,9 @@ returns-in_err-name-clause-fault g c =
       c.in_ok-log.log,
       c.read_name.new.log,
       c.in_ok-log.ensures.given,
-      erased fault,
-      erased-fault fault,
-      λ reliable. inl (erased-name c.args.fingerprint g.H.Log.Log.content c.in_ok-log.log c.read_name.new.log fault (c.in_err-name.ensures.fault reliable)),
+      fault,
+      refl,
+      λ reliable. inl (c.in_err-name.ensures.fault reliable),
     ))
 
 pub returns-in_err-count-clause-fault : goal.returns-in_err-count-clause-fault
@@ -31,13 +30,13 @@ returns-in_err-count-clause-fault g c =
       c.in_ok-log.log,
       c.recover.new.log,
       c.in_ok-log.ensures.given,
-      erased fault,
-      erased-fault fault,
+      fault,
+      refl,
       λ reliable. inr (record {
         name = c.in_ok-name.name;
         of_map = c.in_ok-name.ensures.of_map;
         named = c.in_ok-name.ensures.header reliable;
-        fault = erased-is c.in_ok-name.name g.H.Log.Log.content c.in_ok-log.log c.read_name.new.log c.recover.new.log (skipping (skipped_of c.in_ok-name.name.compaction) (opened c.args.map)) fault (c.in_ok-name.ensures.read reliable).same
+        fault = fault-of-given c.in_ok-name.name g.H.Log.Log.content c.in_ok-log.log c.read_name.new.log c.recover.new.log (skipping (skipped_of c.in_ok-name.name.compaction) (opened c.args.map)) fault (c.in_ok-name.ensures.read reliable).same
             (rw first at c.in_err-count.ensures.fault reliable);
       }),
     ))

@@ -1,9 +1,6 @@
 use Rattle.std.proofs.Common.{◌≡◌, ◌∙◌, Some, ap, length, refl}
-use Rattle.service.proofs.Timing.{goes-on, have-served}
+use Rattle.service.proofs.Timing.{have-served}
 use Rattle.service.proofs.clients.serve_clients.Goals as goal
-
-pub returns-in-Some-clause-ends : goal.returns-in-Some-clause-ends
-returns-in-Some-clause-ends g c = goes-on c.accept_all-served.result c.accept_all-served.ensures.failed
 
 pub returns-in-Some-clause-clients : goal.returns-in-Some-clause-clients
 returns-in-Some-clause-clients g c =

@@ -32,4 +32,4 @@ pub returns-in-Err-NotReplaced-clause-compacted : goal.returns-in-Err-NotReplace
 returns-in-Err-NotReplaced-clause-compacted g c reliable own settled =
     let (same, crash) = rw c.in-Err-NotReplaced.field-0-is at (c.in-Err-NotReplaced.ensures.unreplaced reliable) in
     let read = c.in-Ok.ensures.read reliable in
-    (still_settled g.L.Log.content g.L.Log.may_leave c.args.self.now _ own settled (same ∙ read.same) (λ f left. read.crash f (crash f left)) c.in-Ok.ensures.same.0 c.in-Ok.ensures.same.1, c.in-Ok.ensures.same.0)
+    (still_settled g.L.Log.content g.L.Log.may_leave c.args.self.now _ own settled (same ∙ read.same) (λ f left. read.crash f (crash f left)) c.in-Ok.ensures.same.0 c.in-Ok.ensures.same.1 c.in-Ok.ensures.same.2, c.in-Ok.ensures.same.0)

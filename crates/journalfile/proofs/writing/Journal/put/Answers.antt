@@ -11,6 +11,7 @@ use Rattle.journal.specs.Reading.{StandsFor, StandsForFirst}
 use Rattle.journal.proofs.Standing.{stands, stands_first}
 use Rattle.journalfile.specs.Settled.{GarblesNoRecord}
 use Rattle.keepers.proofs.Moments.{started, weaker}
+use Rattle.journalfile.proofs.Lengths.{noted_more}
 use Rattle.journalfile.proofs.Standing.{add_crash}
 use Rattle.journalfile.proofs.writing.Journal.put.Goals as goal
 
@@ -64,4 +65,7 @@ returns-clause-kept g c reliable kept settled =
       count = omega (arith, settled.count, length-append kept more, length-texts c.args.batches.now);
       enough = omega (arith, settled.enough, length-append kept more);
       durable = c.in_default-append_synced.ensures.durable reliable;
+      noted =
+          let more = noted_more (g.L.Log.content c.args.self.now.log) (g.L.Log.content c.append_synced.new.log) c.as_slice.result.now c.args.self.now.length settled.noted (c.in_default-append_synced.ensures.added reliable) in
+          omega (arith, c.saturating_add-self.ensures, c.len.ensures, ap (λ (l : List ℕ). length l) c.as_slice.ensures.value, more);
     }

@@ -28,7 +28,6 @@ returns-clause-serves g c = (
     failure = c.in-Err.failure;
     ends = ap (λ e. e.outcome) c.after.ensures;
     output = Keeps-refl _;
-    cause = _;
     without = rw (c.of-folder.ensures.host, c.named_file.ensures.host, c.named_file.ensures.path, c.named_file.ensures.left, c.named_file.ensures.name) at c.in-Err.ensures.without;
     nothing = nothing-served _ _ c.after.ensures;
   }),

@@ -6,13 +6,12 @@ use Rattle.program.proofs.program.Program.serve_compacted.Goals as goal
 
 pub returns-in-Ok-clause-serves : goal.returns-in-Ok-clause-serves
 returns-in-Ok-clause-serves g c =
-    let view = journal_view g.H.Host.journal g.H.Log.Log c.args.self.now.host.now in
+    let view = journal_view g.H.Host.journal g.H.Host.unopened g.H.Log.Log g.H.Log.Failure.LogFailure.cause c.args.self.now.host.now in
     inr (
       c.in-Ok.served,
       c.of_compacted.ensures,
-      served-alike _ _ (KeepsState view) (λ cause. view.Failure) _ c.in-Ok.served _ _
+      served-alike _ _ (KeepsState view) _ c.in-Ok.served _ _
           (λ batches. has-state view ((name : List ℕ) → GarblesNoRecord g.H.Log.Log.garbled name) c.args.kept.keeper c.requires.ready.0 batches c.requires.ready.1)
           (state-of view ((name : List ℕ) → GarblesNoRecord g.H.Log.Log.garbled name) c.in-Ok.served.last)
-          (λ cause failed. failed.0)
           c.in-Ok.ensures.served,
     )

@@ -1,4 +1,4 @@
-use Rattle.std.proofs.Common.{inl, inr, refl}
+use Rattle.std.proofs.Common.{inl, inr, refl, sym}
 use Rattle.program.proofs.program.Program.serve_compacting.Goals as goal
 
 pub serve_compacted-requires-clause-ready : goal.serve_compacted-requires-clause-ready
@@ -20,4 +20,4 @@ returns-in-Ok-clause-serves g c =
     )
 
 pub returns-in-Err-clause-serves : goal.returns-in-Err-clause-serves
-returns-in-Err-clause-serves g c = inl (c.cause.result, c.of_journal.ensures, refl)
+returns-in-Err-clause-serves g c = inl (c.cause.result, (c.in-Err.failure, sym c.cause.ensures), c.of_journal.ensures, refl)

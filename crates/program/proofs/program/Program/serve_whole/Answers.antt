@@ -7,13 +7,12 @@ use Rattle.program.proofs.program.Program.serve_whole.Goals as goal
 
 pub returns-in-Ok-clause-serves : goal.returns-in-Ok-clause-serves
 returns-in-Ok-clause-serves g c =
-    let view = journal_view g.H.Host.journal g.H.Log.Log c.args.self.now.host.now in
+    let view = journal_view g.H.Host.journal g.H.Host.unopened g.H.Log.Log g.H.Log.Failure.LogFailure.cause c.args.self.now.host.now in
     inr (
       c.in-Ok.served,
       c.of_service.ensures,
-      served-alike _ _ (KeepsAll view) (λ cause. view.Failure) _ c.in-Ok.served _ _
+      served-alike _ _ (KeepsAll view) _ c.in-Ok.served _ _
           (λ batches. has-kept view (λ journal. GarblesNoRecord g.H.Log.Log.garbled (name_bytes journal.name)) c.args.kept.keeper c.requires.ready.0 batches c.requires.ready.1)
           (kept-all view (λ journal. GarblesNoRecord g.H.Log.Log.garbled (name_bytes journal.name)) c.in-Ok.served.last)
-          (λ cause failed. failed.0)
           c.in-Ok.ensures.served,
     )

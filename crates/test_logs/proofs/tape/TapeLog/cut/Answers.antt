@@ -1,6 +1,6 @@
-use Rattle.journal_tests.specs.Tape.{IsLeft}
-use Rattle.journal_tests.proofs.Taping.{cut_stays, cut_shortens, elapses}
-use Rattle.journal_tests.proofs.tape.TapeLog.cut.Goals as goal
+use Rattle.test_logs.specs.Tape.{IsLeft}
+use Rattle.test_logs.proofs.Taping.{cut_stays, cut_shortens, elapses}
+use Rattle.test_logs.proofs.tape.TapeLog.cut.Goals as goal
 
 pub returns-then-self-clause-crash : goal.returns-then-self-clause-crash
 returns-then-self-clause-crash c reliable = cut_stays c.args.end (IsLeft c.args.self.now.bytes.items c.args.self.now.synced)

@@ -1,7 +1,7 @@
 -- The bytes that a tape has had.
 use Rattle.std.specs.Prelude.{◌≡◌, ◌⊎◌, ℕ, ◌≤◌, List, [], ◌∷◌, length, take, drop}
 use mathlib.Core.Logic.{inl, inr}
-use Rattle.journal_tests.specs.declared.tape.Moment.{Moment}
+use Rattle.test_logs.specs.declared.recording.Moment.{Moment}
 
 -- a crash leaves so many of the first bytes, and not fewer than were synced
 abbrev pub IsLeft : List ℕ → ℕ → List ℕ → Type 0

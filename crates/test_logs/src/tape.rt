@@ -2,11 +2,13 @@
 
 ghost use Rattle.std.specs.Prelude.{◌≡◌, ◌⊎◌, ◌≤◌, true, [], ◌∷◌, ◌++◌, length, min, take, drop, IfOk, OnOk, OnErr};
 ghost use Rattle.std.proofs.Common.{inl};
-ghost use Rattle.journal_tests.specs.Tape.{IsLeft, WasOnce, only_here};
+ghost use Rattle.test_logs.specs.Tape.{IsLeft, WasOnce, only_here};
 
+use crate::recording::{Moment, Recording};
 use journalfile::{Log, LogFailure, NotCompacted, ReplaceFault, Replaceable};
 use keepers::LogCause;
 use std::alloc::{AllocError, Global};
+use std::sync::Arc;
 
 /// The tape has stopped.
 #[derive(Clone, Copy, Debug, PartialEq, Eq)]
@@ -23,26 +25,21 @@ impl LogFailure for TapeFailed {
     }
 }
 
-// What a tape had at a moment: its bytes, and how many of them a crash left at least.
-#[derive(Drop)]
-pub(crate) struct Moment {
-    pub(crate) bytes: Vec<u8>,
-    pub(crate) synced: usize,
-}
-
 /// Bytes in memory. A crash leaves those that were there at the last sync, and any prefix of those after them.
 #[derive(Drop)]
 pub struct Tape {
     alloc: Global,
     bytes: Vec<u8>,
     synced: usize,
-    pub(crate) past: Vec<Moment>,
+    past: Vec<Moment>,
     // How many bytes are still taken. The call that has no room for all of its bytes takes the first of them, and no later call works.
     room: usize,
     has_stopped: bool,
     // No other tape takes its place.
     is_fixed: bool,
     syncs: usize,
+    // Where its moments are noted for who has given it away, if they are.
+    recording: Option<Arc<Recording, Global>>,
 }
 
 impl Tape {
@@ -59,6 +56,7 @@ impl Tape {
             has_stopped: false,
             is_fixed: false,
             syncs: 0,
+            recording: None,
         }
     }
 
@@ -68,6 +66,28 @@ impl Tape {
     {
         self.is_fixed = true;
         self
+    }
+
+    /// The same tape, whose moments are noted in a recording from now on, which outlives it.
+    pub fn recorded(mut self, recording: Arc<Recording, Global>) -> Self
+        ensures { result.bytes.items ≡ self.bytes.items }
+    {
+        self.recording = Some(recording);
+        self.record();
+        self
+    }
+
+    // Notes in the recording, if there is one, what it has now. Where memory is refused for that, the moment is left out.
+    fn record(&self) {
+        if let (Some(recording), Ok(bytes)) = (&self.recording, self.bytes.to_vec(self.alloc)) {
+            let synced = self.synced;
+            recording.note(self.past.len(), Moment { bytes, synced });
+        }
+    }
+
+    /// What it had at each moment before this one.
+    pub fn past(&self) -> &[Moment] {
+        &self.past
     }
 
     /// The bytes, of which a crash leaves `synced` at least.
@@ -165,6 +185,7 @@ impl Log for Tape {
         note(self.alloc, &self.bytes, self.synced, &mut self.past)?;
         self.bytes = longer;
         self.room -= count;
+        self.record();
         if count < bytes.len() {
             self.has_stopped = true;
             return Err(TapeFailed);
@@ -179,6 +200,7 @@ impl Log for Tape {
         note(self.alloc, &self.bytes, self.synced, &mut self.past)?;
         self.bytes.truncate(end);
         self.synced = self.synced.min(end);
+        self.record();
         Ok(())
     }
 
@@ -189,6 +211,7 @@ impl Log for Tape {
         note(self.alloc, &self.bytes, self.synced, &mut self.past)?;
         self.synced = self.bytes.len();
         self.syncs = self.syncs.wrapping_add(1);
+        self.record();
         Ok(())
     }
 }
@@ -225,6 +248,7 @@ impl Replaceable for Tape {
         self.synced = synced;
         self.room = room;
         self.has_stopped = has_stopped;
+        self.record();
         Ok(())
     }
 

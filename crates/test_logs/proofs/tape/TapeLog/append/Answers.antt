@@ -1,6 +1,6 @@
-use Rattle.journal_tests.specs.Tape.{IsLeft}
-use Rattle.journal_tests.proofs.Taping.{torn_stays, torn_adds, elapses}
-use Rattle.journal_tests.proofs.tape.TapeLog.append.Goals as goal
+use Rattle.test_logs.specs.Tape.{IsLeft}
+use Rattle.test_logs.proofs.Taping.{torn_stays, torn_adds, elapses}
+use Rattle.test_logs.proofs.tape.TapeLog.append.Goals as goal
 
 pub returns-then-self-clause-crash : goal.returns-then-self-clause-crash
 returns-then-self-clause-crash c reliable = torn_stays c.args.bytes.now (IsLeft c.args.self.now.bytes.items c.args.self.now.synced)

@@ -1,8 +1,8 @@
 use Rattle.std.proofs.Common.{◌≡◌, ℕ, length, subst, arith}
 use Rattle.journalfile.specs.Log.{NoOther}
-use Rattle.journal_tests.specs.Tape.{IsLeft}
-use Rattle.journal_tests.proofs.Taping.{sync_keeps, elapses}
-use Rattle.journal_tests.proofs.tape.TapeLog.sync.Goals as goal
+use Rattle.test_logs.specs.Tape.{IsLeft}
+use Rattle.test_logs.proofs.Taping.{sync_keeps, elapses}
+use Rattle.test_logs.proofs.tape.TapeLog.sync.Goals as goal
 
 pub returns-clause-crash : goal.returns-clause-crash
 returns-clause-crash c reliable =

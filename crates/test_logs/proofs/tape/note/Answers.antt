@@ -1,5 +1,5 @@
 use Rattle.std.proofs.Common.{◌≡◌, rules, refl}
-use Rattle.journal_tests.proofs.tape.note.Goals as goal
+use Rattle.test_logs.proofs.tape.note.Goals as goal
 
 pub returns-clause-ok : goal.returns-clause-ok
 returns-clause-ok c =

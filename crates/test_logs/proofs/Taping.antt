@@ -5,8 +5,8 @@ use Rattle.std.proofs.lemmas.Bool.{cases_lt}
 use Rattle.std.proofs.Math.Seq.{take-append-add}
 use mathlib.Core.List.{IsPrefix}
 use Rattle.journalfile.specs.Log.{Torn, Cut, Follows, NoOther, Elapses}
-use Rattle.journal_tests.specs.Tape.{IsLeft, WasOnce}
-use Rattle.journal_tests.specs.declared.tape.Moment.{Moment}
+use Rattle.test_logs.specs.Tape.{IsLeft, WasOnce}
+use Rattle.test_logs.specs.declared.recording.Moment.{Moment}
 
 prefix_take : (m n : ℕ) (xs : List ℕ) → m ≤ n → IsPrefix (take m xs) (take n xs)
 prefix_take zero n xs le = (take n xs, refl)

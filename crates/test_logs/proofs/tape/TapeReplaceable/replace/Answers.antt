@@ -1,6 +1,6 @@
 use Rattle.std.proofs.Common.{inr}
-use Rattle.journal_tests.proofs.Taping.{elapses}
-use Rattle.journal_tests.proofs.tape.TapeReplaceable.replace.Goals as goal
+use Rattle.test_logs.proofs.Taping.{elapses}
+use Rattle.test_logs.proofs.tape.TapeReplaceable.replace.Goals as goal
 
 pub returns-clause-crash : goal.returns-clause-crash
 returns-clause-crash c reliable file left = inr (c.requires.synced reliable file left)
