@@ -1,4 +1,6 @@
 """Pictures painted by the rules of docs/DRAWING.md, in whole numbers: what the program's are compared with."""
+import collections
+import math
 import re
 
 
@@ -25,6 +27,32 @@ def read_places(mapfile, name):
             rings.append(list(zip(numbers[0::2], numbers[1::2])))
         found.append((colour, rings))
     return found
+
+
+def between(least, most, first, step):
+    """The first column in which a number lies between two bounds, and the one after the last. It is `first` in column 0, and grows by a step."""
+    if step < 0:
+        least, most, first, step = -most, -least, -first, -step
+    if step == 0:
+        return (-math.inf, math.inf) if least <= first <= most else (0, 0)
+    return -((first - least) // step), (most - first) // step + 1
+
+
+def round_spans(a, b, y, half):
+    """Spans of the columns at a height whose centres lie at most so many sixteenths away from a point of the segment from a to b."""
+    for x0, y0 in (a, b):
+        if abs(y - y0) <= half:
+            chord = math.isqrt(half * half - (y - y0) ** 2)
+            yield between(x0 - chord, x0 + chord, 8, 16)
+    # Between the perpendiculars through both ends, at most half the width aside of the segment's line: both times its length.
+    (x0, y0), run, fall = a, b[0] - a[0], b[1] - a[1]
+    length = run * run + fall * fall
+    if length == 0:
+        return
+    reach = math.isqrt(half * half * length)
+    along = between(0, length, (8 - x0) * run + (y - y0) * fall, 16 * run)
+    aside = between(-reach, reach, (y - y0) * run - (8 - x0) * fall, -16 * fall)
+    yield max(along[0], aside[0]), min(along[1], aside[1])
 
 
 class Picture:
@@ -114,6 +142,33 @@ class Picture:
                 columns[i] |= (1 << max(last - first + 1, 0)) - 1 << first
             else:
                 self.span(i, last - width + 1, last + 1, colour)
+
+    def round_outline(self, rings, colour, width):
+        """Draws the closed round line along each ring."""
+        for ring in rings:
+            points = [self.device(place) for place in ring]
+            self.round(zip(points, points[1:] + points[:1]), colour, width)
+
+    def round_line(self, places, colour, width):
+        """Draws the open round line along places, of which there may be one."""
+        points = [self.device(place) for place in places]
+        self.round(zip(points, points[1:] or points), colour, width)
+
+    def round(self, segments, colour, width):
+        """What lies at most half a width away from some segment."""
+        half, rows = 8 * width, collections.defaultdict(int)
+        for a, b in segments:
+            if min(a[0], b[0]) - half > 16 * self.width or max(a[0], b[0]) + half < 0:
+                continue
+            high, low = min(a[1], b[1]) - half, max(a[1], b[1]) + half
+            for j in range(max((high + 7) // 16, 0), min((low - 8) // 16, self.height - 1) + 1):
+                for first, end in round_spans(a, b, 16 * j + 8, half):
+                    first, end = max(first, 0), min(end, self.width)
+                    if first < end:
+                        rows[j] |= (1 << end) - (1 << first)
+        for j, covered in rows.items():
+            for run in re.finditer("1+", bin(covered)[:1:-1]):
+                self.span(j, run.start(), run.end(), colour)
 
     def square_at(self, point, size, colour):
         """A square round a device point."""
