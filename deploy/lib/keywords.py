@@ -112,7 +112,7 @@ REFUSED = {
         "BACKGROUNDCOLOR": LEAVE_OUT, "COLORRANGE": "write a CLASS for each range", "DATARANGE": "write a CLASS for each range",
         "GAP": "leave it out: symbols along a line aren't drawn",
         "GEOMTRANSFORM": "transform the features before, as by ogr2ogr -dialect SQLite",
-        "INITIALGAP": "leave it out: symbols along a line aren't drawn", "LINECAP": "leave it out: lines end without a cap",
+        "INITIALGAP": "leave it out: symbols along a line aren't drawn", "LINECAP": "leave it out: lines end without a cap, in a smoothed map round",
         "LINEJOIN": "leave it out", "LINEJOINMAXSIZE": LEAVE_OUT, "MAXSCALEDENOM": "write it into a CLASS",
         "MINSCALEDENOM": "write it into a CLASS", "OFFSET": "leave it out, or shift the features before",
         "OPACITY": "leave it out, or write the colour that results",

@@ -79,12 +79,16 @@ class Crates(Sources):
     def test_a_copy_that_stays_has_the_sources_of_today_and_what_rt_keeps(self):
         folder = os.path.join(self.top, "copy")
         self.write("crates/side/src/old.rt", "x")
+        self.write("crates/mapservd/stdin", "a session")
         build.copy(sources.crates(), folder)
         kept = self.write("copy/crates/side/out/incremental/a", "kept")
         os.remove(os.path.join(self.top, "crates/side/src/old.rt"))
         self.write("crates/side/src/new.rt", "y")
+        self.write("crates/mapservd/stdin", "another")
         build.copy(sources.crates(), folder)
         self.assertEqual(sorted(os.listdir(os.path.join(folder, "crates/side/src"))), ["lib.rt", "new.rt"])
+        with open(os.path.join(folder, "crates/mapservd/stdin"), encoding="utf-8") as file:
+            self.assertEqual(file.read(), "another")
         with open(kept, encoding="utf-8") as file:
             self.assertEqual(file.read(), "kept")
 
