@@ -4,8 +4,9 @@
 lint has to find no difference exactly where `check` finds no fault but those of files, and where `check` finds one, a
 difference on its line. Tried are the mapfiles of demo/ and of the cases, those of the table below, which has each
 block in which others begin or don't, thousands that are made of these by dropping, doubling and replacing words, those
-of Debian's python3-mapscript and mapserver-doc where they are installed, and those that are given. It ends with 1 where
-the two disagree.
+of Debian's python3-mapscript and mapserver-doc where they are installed, and those that are given. Where neither finds
+anything, both have to warn of the same fonts and symbols as too small; smoothed maps with small ones are made for that. It
+ends with 1 where the two disagree.
 
 Gate: PROGRAM; 40 s
 """
@@ -22,7 +23,7 @@ sys.path.insert(0, str(pathlib.Path(__file__).resolve().parents[1] / "lib"))
 import loading
 
 TOP = os.path.dirname(os.path.dirname(os.path.dirname(os.path.realpath(__file__))))
-OURS = ["demo/*.map", "crates/replay/data/*/map"]
+OURS = ["demo/*.map", "tests/cases/*/map"]
 DEBIAN = ["/usr/lib/python3/dist-packages/mapscript/tests/data/*.map", "/usr/share/doc/mapserver-doc/symbols/*.map"]
 
 LAYER = "LAYER NAME l TYPE POINT {}\nEND"
@@ -154,20 +155,26 @@ def fault_of(program, path):
     return (int(found[1]) if found and found[2] not in ("7", "10") else None), checked.stderr
 
 
-def differences_of(lint, path):
-    """What lint differs on, with its lines."""
+def read_all(lint, path):
+    """The linter that read a mapfile."""
     with open(path, encoding="utf-8", errors="surrogateescape", newline="") as file:
         linter = lint.Linter(path, file.read())
     linter.read_all()
-    return [(line, words) for line, is_difference, words in linter.found if is_difference]
+    return linter
+
+
+# The size of a font or a symbol that is shown too small, the factor, and the size that would do.
+SMALL = re.compile(r"(\d+ pixels (?:high|long)), which WMS_SMOOTHING (\d) shows as .*: (bring one of \d+ or more)")
 
 
 def agrees(program, lint, path, name):
     line, words = fault_of(program, path)
-    found = differences_of(lint, path)
-    if not found if line is None else line in [where for where, _ in found]:
+    linter = read_all(lint, path)
+    found = [(where, text) for where, is_difference, text in linter.found if is_difference]
+    small = [SMALL.search(text).groups() for _, text in linter.sizes.warnings(linter.folder)]
+    if (not found and SMALL.findall(words) == small) if line is None else line in [where for where, _ in found]:
         return True
-    print(f"{name}: check says line {line}: {words}  lint says {found}")
+    print(f"{name}: check says line {line}: {words}  lint says {found}, and warns of {small}")
     return False
 
 
@@ -231,6 +238,32 @@ def try_made(program, lint, made, count):
             os.remove(path)
 
 
+# A mapfile of a factor with a font and two symbols, and the font.
+SIZED = "MAP CONFIG WMS_SMOOTHING {} CONFIG LABELFONT f.bdf SYMBOL NAME a TYPE PIXMAP IMAGE a.ppm END\nSYMBOL NAME b TYPE PIXMAP IMAGE b.ppm END END\n"
+FONT = "STARTFONT 2.1\nFONTBOUNDINGBOX 5 {} 0 0\nCHARS 1\nSTARTCHAR c\nENCODING 65\nDWIDTH 3 0\nBBX 2 1 0 0\nBITMAP\nC0\nENDCHAR\nENDFONT\n"
+
+# The factor, the font's height, the sides of the symbols, and of how many is warned.
+SIZES = [
+    (1, 1, (1, 1), (2, 1), 0), (2, 16, (8, 1), (1, 8), 0), (2, 15, (7, 8), (9, 7), 1), (2, 16, (7, 7), (6, 5), 2), (3, 24, (12, 2), (11, 11), 1),
+    (3, 23, (11, 3), (3, 12), 2), (4, 32, (16, 15), (15, 16), 0), (4, 31, (15, 15), (1, 1), 3),
+]
+
+
+def try_sizes(program, lint, count):
+    """Smoothed maps whose font and symbols are just large enough, or too small."""
+    for factor, height, first, second, wanted in SIZES:
+        with tempfile.TemporaryDirectory() as folder:
+            place = pathlib.Path(folder)
+            (place / "a.map").write_text(SIZED.format(factor))
+            (place / "f.bdf").write_text(FONT.format(height))
+            for name, (width, across) in (("a.ppm", first), ("b.ppm", second)):
+                (place / name).write_bytes(b"P6 %d %d 255\n" % (width, across) + bytes(3 * width * across))
+            is_right = agrees(program, lint, str(place / "a.map"), f"sizes of {factor}, {height}, {first} and {second}")
+            found = len(SMALL.findall(fault_of(program, str(place / "a.map"))[1]))
+        if not count.that(is_right and found == wanted):
+            print(f"factor {factor}, {height} high, {first} and {second}: check warns of {found}, in place of {wanted}")
+
+
 def main():
     if len(sys.argv) < 2:
         sys.exit(__doc__.split("\n")[0])
@@ -240,6 +273,7 @@ def main():
     for path in paths:
         count.that(agrees(program, lint, path, path))
     try_texts(lint, count)
+    try_sizes(program, lint, count)
     small = [open(path, encoding="utf-8", errors="surrogateescape").read() for path in paths if os.path.getsize(path) < 20_000]
     try_made(program, lint, list(tables()) + [text for source in small for text in spoiled(source)], count)
     print(f"lint_agrees: {count.tried} mapfiles, {count.wrong} on which lint and check disagree")

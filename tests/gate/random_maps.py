@@ -5,7 +5,7 @@ Usage: random_maps.py PROGRAM [MAPS [SEED]]
 
 Each map has up to three layers, with rings, lines or points of up to 1,000 vertices, many of them of some blocks of 32 edges:
 scattered, in short steps, far off the view, spikes and equal vertices, on pixel centres, in one row, left of the view and
-beside its corner. Widths are 1 to 32, sizes 1 to 64. Points have squares or pixmaps, classes have bounds on the scale and
+beside its corner. Widths are 1 to 32, sizes 1 to 64; with smoothing lines are round. Points have squares or pixmaps, classes have bounds on the scale and
 labels. Of each map the program draws a picture without smoothing and one of each factor: that is the mean of the picture
 by the rules that is as many times as fine. Some boxes have no fine picture. The script ends with 1 if a picture differs, and
 leaves its map, with its files, in a folder below the one where it runs.
@@ -129,10 +129,12 @@ class Style:
             if self.fill:
                 picture.fill(parts, self.fill)
             if self.outline:
-                picture.outline(parts, self.outline, times * self.width)
+                outline = picture.outline if times == 1 else picture.round_outline
+                outline(parts, self.outline, times * self.width)
         elif kind == "LINE":
+            line = picture.line if times == 1 else picture.round_line
             for places in parts:
-                picture.line(places, self.fill, times * self.width)
+                line(places, self.fill, times * self.width)
         for at in (at for places in parts for at in places) if kind == "POINT" else ():
             if self.symbol:
                 picture.pixmap(at, self.symbol[1])

@@ -4,10 +4,11 @@
 Usage: smoothed.py PROGRAM [MAPS [SEED]]
 
 For each random map and each factor the program draws a picture of a map with CONFIG "WMS_SMOOTHING", and the picture n times
-as wide and high of a copy without it: in the copy WIDTH, SIZE, BUFFER and MINDISTANCE are n times as many, and the bounds on
+as wide and high of a copy without it: in the copy SIZE, BUFFER and MINDISTANCE are n times as many, and the bounds on
 scales an n-th. Each pixel of the first has to be the mean of n by n pixels of the second, by DRAWING.md. The maps have
-polygons that share edges, outlines, lines, points, pixmaps, classes by scale and labels; the pictures lie across borders of
-blocks, in EPSG:3857, in each format, with each TRANSPARENT and with BGCOLOR. It ends with 1 where a picture differs.
+polygons that share edges, points, pixmaps, classes by scale and labels; the pictures lie across borders of blocks, in
+EPSG:3857, in each format, with each TRANSPARENT and with BGCOLOR. They have no lines, which are round in a smoothed picture
+alone: `random_maps.py` and `round_lines.py` try those. It ends with 1 where a picture differs.
 
 Gate: PROGRAM 4; 6 s
 """
@@ -58,7 +59,7 @@ def neighbours(rng):
 def parts(rng, kind):
     if kind == "POLYGON" and rng.random() < 0.3:
         return neighbours(rng)
-    count = {"POINT": 6, "LINE": 5, "POLYGON": 7}[kind]
+    count = {"POINT": 6, "POLYGON": 7}[kind]
     return [points([place(rng) for _ in range(rng.randint(1 if kind == "POINT" else 2, count))]) for _ in range(rng.randint(1, 3))]
 
 
@@ -70,12 +71,10 @@ def bounds(rng):
 
 class Style:
     def __init__(self, rng, kind):
-        self.words = [f"COLOR {colour(rng)}"] if rng.random() < 0.8 or kind != "POLYGON" else []
-        if kind == "POLYGON" and rng.random() < 0.6:
-            self.words.append(f"OUTLINECOLOR {colour(rng)}")
+        self.words = [f"COLOR {colour(rng)}"]
         if kind == "POINT" and rng.random() < 0.4:
             self.words.append(f'SYMBOL "{rng.choice("st")}"')
-        self.sizes = {"WIDTH": rng.randint(1, 8), "SIZE": rng.randint(1, 64)}
+        self.sizes = {"SIZE": rng.randint(1, 64)}
 
 
 class Label:
@@ -87,7 +86,7 @@ class Label:
 
 class Layer:
     def __init__(self, rng, name):
-        self.name, self.kind = name, rng.choice(["POLYGON", "POLYGON", "LINE", "POINT"])
+        self.name, self.kind = name, rng.choice(["POLYGON", "POLYGON", "POINT"])
         self.features = [(parts(rng, self.kind), rng.choice(["a", "ab", "b", "bbaab", "aaaaaaaaaa"])) for _ in range(rng.randint(1, 6))]
         self.styles = [Style(rng, self.kind) for _ in range(rng.randint(1, 2))]
         self.label = Label(rng) if rng.random() < 0.6 else None

@@ -92,7 +92,7 @@ def missing_of(part, crate, names):
         yield f"the law {rest}"
     elif word == "script" and not (TABLE.parent.parent / rest).exists():
         yield f"the script {rest}"
-    elif word == "case" and not (TABLE.parent.parent / "crates/replay/data" / rest).exists():
+    elif word == "case" and not (TABLE.parent.parent / "tests/cases" / rest).exists():
         yield f"the case {rest}"
     elif word not in ("edit", "law", "case", "script", "prover", "nothing:", "proof"):
         yield f"anything of the name {word}, which refuses a mutant,"
