@@ -1,22 +1,20 @@
 -- What threads that are joined give back.
-use Rattle.std.proofs.Common.{rules, ◌≡◌, ◌<◌, ℕ, List, [], ◌∷◌, length, All, subst, sym}
-use Rattle.std.proofs.lemmas.List.Elements.{All-from_get_or, All-get_or}
-use Rattle.std.specs.PromisedHandle.{KeepsEach}
-use Rattle.std.specs.declared.thread.PromisedHandle.{PromisedHandle}
-use Rattle.std.specs.declared.thread.Promise as Promise
+use Rattle.std.proofs.Common.{◌≡◌, List, [], ◌∷◌, ◌++◌, Option, None, Some, IfSome, IsSome, MatchOption, refl, subst, sym}
 
--- where each promise gives a fact, each that was given back has it
-pub all-kept : {T Q : Type 0} (g : Promise.Ghosts Q T) (P : T → Type 0) → ((p : Q) (r : T) → g.kept_by p r → P r) → (n : ℕ) (hs : List (PromisedHandle T Q)) (rs : List T) → length rs ≡ n → KeepsEach g n hs rs → All P rs
-all-kept g P gives n hs [] len each = search rules
-all-kept g P gives n hs (x ∷ xs) len each =
-    All-from_get_or P (x ∷ xs) x (λ i less. let k = (each i x (rw len at less)).1 in gives k.handle.promise _ k.kept)
+-- where one came behind those that were there before, what holds of those holds of all, if it holds of that one too
+pub one-more : {V W : Type 0} (items : V → List W) (w : W) (Q R : List W → Type 0) → ((xs : List W) → Q xs → R (xs ++ w ∷ [])) → (before after : Option V)
+    → IfSome after (λ new. IfSome before (λ old. items new ≡ items old ++ w ∷ [])) → (IsSome after → IsSome before)
+    → IfSome before (λ old. Q (items old)) → IfSome after (λ new. R (items new))
+one-more items w Q R step before None more some is = tt
+one-more items w Q R step None (Some new) more some is = let none = some refl in cc
+one-more items w Q R step (Some old) (Some new) more some is = subst R (sym more) (step (items old) is)
 
--- the same where it needs a fact of the thread too
-pub all-kept-by : {T Q : Type 0} (g : Promise.Ghosts Q T) (O : PromisedHandle T Q → Type 0) (P : T → Type 0) → ((h : PromisedHandle T Q) (r : T) → O h → g.kept_by h.promise r → P r) → (n : ℕ) (hs : List (PromisedHandle T Q)) (rs : List T)
-    → length rs ≡ n → n ≡ length hs → All O hs → KeepsEach g n hs rs → All P rs
-all-kept-by g O P gives n hs [] len whole all each = search rules
-all-kept-by g O P gives n hs (x ∷ xs) len whole all each =
-    All-from_get_or P (x ∷ xs) x (λ i less.
-    let k = (each i x (rw len at less)).1 in
-    let within : i < length hs = rw (len, whole) at less in
-    gives k.handle _ (subst O (sym k.handle_is) (All-get_or O hs i k.handle within all)) k.kept)
+-- what holds of one that is there, where more holds of it
+pub each-so : {V : Type 0} (P Q : V → Type 0) → ((v : V) → P v → Q v) → (found : Option V) → IfSome found P → IfSome found Q
+each-so P Q step None is = tt
+each-so P Q step (Some v) is = step v is
+
+-- what holds where none was found
+pub none-found : {X : Type 0} (o : Option X) (P : Type 0) (Q : X → Type 0) → ((x : X) → o ≡ Some x → ⊥) → MatchOption o P Q → P
+none-found None P Q other is = is
+none-found (Some x) P Q other is = absurd (other x refl)

@@ -1,4 +1,4 @@
-ghost use Rattle.std.specs.Prelude.{◌≡◌, ◌+◌, ◌-◌, ◌^◌, [], length, min, IfOk, IfSome, OnOk};
+ghost use Rattle.std.specs.Prelude.{◌≡◌, ◌+◌, ◌-◌, ◌^◌, [], ◌∷◌, ◌++◌, length, min, IfOk, IfSome, IsSome, OnOk};
 ghost use Rattle.std.specs.List.{All};
 ghost use Rattle.eventloop.specs.Rounds.{AllFree, HasBeen};
 ghost use Rattle.eventloop.specs.Working.{BeganWith};
@@ -17,7 +17,7 @@ use std::alloc::{AllocError, Global};
 use std::rt::Clock;
 use std::snapshot::Snapshot;
 use std::sync::{Arc, Wait};
-use std::thread::{self, Promise, PromisedHandle, Threads, join_promised};
+use std::thread::{self, Promise, PromisedHandle, Threads};
 use std::time::Instant;
 use thiserror::Error;
 use turns::Transport;
@@ -44,10 +44,13 @@ impl<A: Asks, T: Transport + Drop, P> Promise<Worker<A, T, P>> for HasServed<A, 
 pub struct WorkerThreads<A: Asks, T: Transport + Drop, P, W: Drop> {
     handovers: Vec<Arc<Handover<T, W>, Global>>,
     threads: Vec<PromisedHandle<Worker<A, T, P>, HasServed<A, T, P>>>,
+    // Room for the workers that the threads give back, so that no memory is wanted at the end.
+    ended: Vec<Worker<A, T, P>>,
     // How many connections were handed over.
     count: u64,
     // How often a connection needed a descriptor.
     pressed: u64,
+    ghost none_ended: { ended.items ≡ [] },
 }
 
 impl<A: Asks + Drop, T: Transport + EndsEarly + Drop, P: Drop, W: Wakes + Drop> WorkerThreads<
@@ -64,6 +67,7 @@ impl<A: Asks + Drop, T: Transport + EndsEarly + Drop, P: Drop, W: Wakes + Drop> 
         Ok(WorkerThreads {
             handovers: Vec::with_capacity(alloc, count)?,
             threads: Vec::with_capacity(alloc, count)?,
+            ended: Vec::with_capacity(alloc, count)?,
             count: 0,
             pressed: 0,
         })
@@ -123,7 +127,7 @@ impl<A: Asks + Drop, T: Transport + EndsEarly + Drop, P: Drop, W: Wakes + Drop> 
         false
     }
 
-    /// Has each worker end, in one way or the other, waits until it has, and gives all back, if there is memory for them.
+    /// Has each worker end, in one way or the other, waits until it has, and gives all back, if no more were started than there was room for.
     pub fn end<R: Wait + Threads>(self, rt: &R, ending: Ending) -> Option<Vec<Worker<A, T, P>>>
         ensures served { IfSome result
             (λ workers. All (λ worker. HasBeen A.answers ⟦<T as Transport>⟧ worker) workers.items) }
@@ -134,20 +138,48 @@ impl<A: Asks + Drop, T: Transport + EndsEarly + Drop, P: Drop, W: Wakes + Drop> 
         let WorkerThreads {
             handovers,
             threads,
+            ended,
             ..
         } = self;
         for handover in &handovers {
             handover.end(rt, ending);
         }
-        match join_promised(rt, threads) {
-            Ok(workers) => Some(workers),
-            Err(failed) => {
-                for thread in failed.value {
-                    thread.join(rt);
-                }
-                None
-            }
-        }
+        join_all(rt, threads, ended)
+    }
+}
+
+// Waits until each of these threads has ended. Their workers come behind those that ended before, if there is room for all.
+fn join_all<R: Threads, A: Asks + Drop, T: Transport + Drop, P: Drop>(
+    rt: &R,
+    mut threads: Vec<PromisedHandle<Worker<A, T, P>, HasServed<A, T, P>>>,
+    ended: Vec<Worker<A, T, P>>,
+) -> Option<Vec<Worker<A, T, P>>>
+    ensures served { All (λ worker. HasBeen A.answers ⟦<T as Transport>⟧ worker) ended.items
+        → IfSome result (λ workers. All (λ worker. HasBeen A.answers ⟦<T as Transport>⟧ worker) workers.items) }
+    ensures times { (times : Timeouts) → BeganWith times threads.items → All (λ worker. timeouts_of worker.table ≡ times) ended.items
+        → IfSome result (λ workers. All (λ worker. timeouts_of worker.table ≡ times) workers.items) }
+    ensures all { IfSome result (λ workers. length workers.items ≡ length ended.items + length threads.items) }
+{
+    let mut ended = Some(ended);
+    while let Some(thread) = threads.pop() {
+        let worker = thread.join(rt);
+        ended = with_one_more(ended, worker);
+    }
+    ended
+}
+
+// The workers that ended, with one more behind them, if there is room for it.
+fn with_one_more<A: Drop, T: Transport + Drop, P: Drop>(
+    ended: Option<Vec<Worker<A, T, P>>>,
+    worker: Worker<A, T, P>,
+) -> Option<Vec<Worker<A, T, P>>>
+    ensures more { IfSome result (λ workers. IfSome ended (λ before. workers.items ≡ before.items ++ worker ∷ [])) }
+    ensures some { IsSome result → IsSome ended }
+{
+    let mut ended = ended?;
+    match ended.push(worker) {
+        Ok(()) => Some(ended),
+        Err(_) => None,
     }
 }
 
