@@ -28,7 +28,7 @@ pub use acceptor::{Acceptor, Plan, Press};
 pub use announcing::Addresses;
 pub use closing::{Closing, MAX_DRAINED_BYTES, drain, hang_up};
 pub use limits::{
-    ADMINISTRATION_SECONDS, ANSWER_TIMES, CALL_SECONDS, DRAIN_SECONDS, FAILURE_MILLISECONDS,
+    ADMINISTRATION_SECONDS, ANSWER_TIMEOUTS, CALL_SECONDS, DRAIN_SECONDS, FAILURE_MILLISECONDS,
     FULL_MILLISECONDS, MAX_CONNECTIONS, MIN_BYTES_PER_MILLI, SILENT_SECONDS, TimeLimit, Waits,
     slots_of, timeouts_of,
 };

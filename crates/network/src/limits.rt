@@ -9,8 +9,8 @@ use std::rt::Clock;
 use std::time::{Duration, Instant};
 use turns::Timeouts;
 
-/// The time in which an answer may stand still fits so often into the time that it may take in all.
-pub const ANSWER_TIMES: u32 = 20;
+/// How many timeouts an answer may take in all; for one of them it may stand still.
+pub const ANSWER_TIMEOUTS: u32 = 20;
 
 /// How many seconds a call of a connection waits, until it is made again or returns how many bytes were sent.
 pub const CALL_SECONDS: u64 = 1;

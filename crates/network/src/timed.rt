@@ -1,7 +1,7 @@
 ghost use Rattle.std.specs.Prelude.{◌≡◌, true};
 
 use crate::closing::Closing;
-use crate::limits::{ANSWER_TIMES, CALL_SECONDS, ENDING_SECONDS, TimeLimit, Waits};
+use crate::limits::{ANSWER_TIMEOUTS, CALL_SECONDS, ENDING_SECONDS, TimeLimit, Waits};
 use std::alloc::{AllocError, Global};
 use std::io::{self, ErrorKind, Read, Write};
 use std::net::{OpenStream, Shutdown};
@@ -28,6 +28,35 @@ impl AnswerWritten {
     }
 }
 
+// The flag where a stream is to end, if it may.
+#[derive(Drop)]
+struct Ending {
+    flag: Option<Arc<AtomicBool, Global>>,
+}
+
+impl Ending {
+    // Whether the flag is set.
+    fn is_set(&self) -> bool {
+        match &self.flag {
+            Some(flag) => flag.load(Ordering::SeqCst),
+            None => false,
+        }
+    }
+}
+
+// How far the command at hand is.
+#[derive(Clone, Copy)]
+enum CommandPhase {
+    // Nothing of it came, and its time runs.
+    Awaited,
+    // Nothing of it came since the last answer, and the time of an idle connection runs.
+    Idle,
+    // Bytes of it came, and it isn't answered yet.
+    Begun,
+    // The same, and its time was cut, as the stream ends.
+    Cut,
+}
+
 /// The bytes of an administrator, with limits of time. The time of a command begins with its first bytes, that of the first command
 /// with the opening of the connection. Each read waits for the rest of that time, and no longer than the administrator may be
 /// silent. The first read after an answer waits for the time of an idle connection.
@@ -38,13 +67,9 @@ pub struct TimedReader<S, C> {
     waits: Waits,
     answered: AnswerWritten,
     limit: TimeLimit,
-    is_idle: bool,
-    // Bytes of a command came, which isn't answered yet.
-    is_amid: bool,
-    // Where the flag is set, the stream ends with the command at hand.
-    is_ending: Option<Arc<AtomicBool, Global>>,
-    // The time of the command at hand was cut, as the stream ends.
-    is_cut: bool,
+    phase: CommandPhase,
+    // Where it is set, the stream ends with the command at hand.
+    ending: Ending,
 }
 
 impl<S, C: Clock> TimedReader<S, C> {
@@ -60,17 +85,17 @@ impl<S, C: Clock> TimedReader<S, C> {
             clock,
             waits,
             answered,
-            is_idle: false,
-            is_amid: false,
-            is_ending: None,
-            is_cut: false,
+            phase: CommandPhase::Awaited,
+            ending: Ending { flag: None },
         })
     }
 
     /// The same stream, which ends where the flag is set: after the command at hand, where nothing of it comes for a second, or when
     /// its rest takes too long.
     pub fn until(mut self, is_ending: Arc<AtomicBool, Global>) -> Self {
-        self.is_ending = Some(is_ending);
+        self.ending = Ending {
+            flag: Some(is_ending),
+        };
         self
     }
 
@@ -80,37 +105,35 @@ impl<S, C: Clock> TimedReader<S, C> {
             .limit
             .left(&self.clock)?
             .min(silence.left(&self.clock)?);
-        match self.is_ending {
+        match self.ending.flag {
             Some(_) => Ok(left.min(Duration::from_secs(CALL_SECONDS))),
             None => Ok(left),
         }
     }
 
-    // Whether the flag is set.
-    fn is_ending(&self) -> bool {
-        match &self.is_ending {
-            Some(is_ending) => is_ending.load(Ordering::SeqCst),
-            None => false,
-        }
-    }
-
     // Whether the stream ends before the next read. The command at hand has some time more.
     fn has_ended(&mut self) -> io::Result<bool> {
-        if !self.is_ending() {
+        if !self.ending.is_set() {
             return Ok(false);
         }
-        if self.is_amid && !self.is_cut {
-            self.limit = TimeLimit::start(&self.clock, Duration::from_secs(ENDING_SECONDS))?;
-            self.is_cut = true;
+        match self.phase {
+            CommandPhase::Awaited | CommandPhase::Idle => Ok(true),
+            CommandPhase::Begun => {
+                self.limit = TimeLimit::start(&self.clock, Duration::from_secs(ENDING_SECONDS))?;
+                self.phase = CommandPhase::Cut;
+                Ok(false)
+            }
+            CommandPhase::Cut => Ok(false),
         }
-        Ok(!self.is_amid)
     }
 
     /// Begins another time now, whatever was answered. Without a clock the time stays as it is.
     pub fn limit(&mut self, whole: Duration) {
         if let Ok(limit) = TimeLimit::start(&self.clock, whole) {
             self.answered.is_set.store(false, Ordering::SeqCst);
-            self.is_idle = false;
+            if let CommandPhase::Idle = self.phase {
+                self.phase = CommandPhase::Awaited;
+            }
             self.limit = limit;
         }
     }
@@ -119,19 +142,20 @@ impl<S, C: Clock> TimedReader<S, C> {
     fn rest(&mut self) -> io::Result<()> {
         if self.answered.is_set.swap(false, Ordering::SeqCst) {
             self.limit = TimeLimit::start(&self.clock, self.waits.idle)?;
-            self.is_idle = true;
-            self.is_amid = false;
+            self.phase = CommandPhase::Idle;
         }
         Ok(())
     }
 
     // Begins the time of a command, whose first bytes came.
     fn begin(&mut self) -> io::Result<()> {
-        if self.is_idle {
+        if let CommandPhase::Idle = self.phase {
             self.limit = TimeLimit::start(&self.clock, self.waits.timeout)?;
-            self.is_idle = false;
         }
-        self.is_amid = true;
+        self.phase = match self.phase {
+            CommandPhase::Cut => CommandPhase::Cut,
+            _ => CommandPhase::Begun,
+        };
         Ok(())
     }
 }
@@ -148,8 +172,8 @@ impl<S: Read + OpenStream, C: Clock> Read for TimedReader<S, C> {
             self.stream.set_read_timeout(Some(wait))?;
             match self.stream.read(room) {
                 Err(error) if error.kind() == ErrorKind::Interrupted => {}
-                Err(error) if moved_nothing(&error) && self.is_ending() => return Ok(0),
-                Err(error) if moved_nothing(&error) && self.is_ending.is_some() => {}
+                Err(error) if moved_nothing(&error) && self.ending.is_set() => return Ok(0),
+                Err(error) if moved_nothing(&error) && self.ending.flag.is_some() => {}
                 read => {
                     self.begin()?;
                     return read;
@@ -172,8 +196,8 @@ pub struct TimedWriter<S, C> {
     // The time since bytes were last sent.
     still: Option<TimeLimit>,
     is_shut: bool,
-    // Where the flag is set, a write that waits for a second fails.
-    is_ending: Option<Arc<AtomicBool, Global>>,
+    // Where it is set, a write that waits for a second fails.
+    ending: Ending,
 }
 
 impl<S, C> TimedWriter<S, C> {
@@ -187,13 +211,15 @@ impl<S, C> TimedWriter<S, C> {
             limit: None,
             still: None,
             is_shut: false,
-            is_ending: None,
+            ending: Ending { flag: None },
         }
     }
 
     /// The same stream, of which a write fails that waits for a second while the flag is set.
     pub fn until(mut self, is_ending: Arc<AtomicBool, Global>) -> Self {
-        self.is_ending = Some(is_ending);
+        self.ending = Ending {
+            flag: Some(is_ending),
+        };
         self
     }
 }
@@ -213,17 +239,9 @@ fn left_of<C: Clock>(
 }
 
 impl<S, C: Clock> TimedWriter<S, C> {
-    // Whether the flag is set.
-    fn is_ending(&self) -> bool {
-        match &self.is_ending {
-            Some(is_ending) => is_ending.load(Ordering::SeqCst),
-            None => false,
-        }
-    }
-
     // How long the next write may wait.
     fn next_wait(&mut self) -> io::Result<Duration> {
-        let whole = self.waits.timeout.saturating_mul(ANSWER_TIMES);
+        let whole = self.waits.timeout.saturating_mul(ANSWER_TIMEOUTS);
         let left = left_of(&mut self.limit, &self.clock, whole)?;
         let still = left_of(&mut self.still, &self.clock, self.waits.timeout)?;
         Ok(left.min(still).min(Duration::from_secs(CALL_SECONDS)))
@@ -253,7 +271,7 @@ impl<S: Write + OpenStream, C: Clock> Write for TimedWriter<S, C> {
             let wait = self.next_wait()?;
             self.stream.set_write_timeout(Some(wait))?;
             match self.stream.write(bytes) {
-                Err(error) if moved_nothing(&error) && self.is_ending() => return Err(error),
+                Err(error) if moved_nothing(&error) && self.ending.is_set() => return Err(error),
                 Err(error) if moved_nothing(&error) => {}
                 written => {
                     self.still = None;

@@ -271,6 +271,6 @@ fn result_of_row(alloc: Global, row: &str) -> Result<String, AllocError> {
 }
 
 #[test]
-fn statuses_are_those_of_the_profile(rt: HostRuntime) -> Result<(), TableFault> {
+fn each_failure_has_its_exit_status(rt: HostRuntime) -> Result<(), TableFault> {
     check_rows(rt.alloc(), FAILURES, '=', 5, result_of_row)
 }
