@@ -81,6 +81,10 @@ pub record TurnCount : Type 0 where
   pub least : ℕ
   pub now : ℕ
 
+-- so many turns at least, at the moment of a worker
+abbrev pub at_least : {A T P : Type 0} → ℕ → Worker A T P → TurnCount
+at_least least worker = record { least = least; now = worker.now }
+
 -- a worker made some steps at a moment, at least so many of which were turns
 abbrev pub HasTurned : {A T : Type 0} → (A → List ℕ → Said → A → Type 0) → Transport T → TurnCount → WorkerState A T → WorkerState A T → Type 0
 HasTurned {A} {T} answers known turns old new =

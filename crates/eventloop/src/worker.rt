@@ -1,6 +1,6 @@
 ghost use Rattle.std.specs.Prelude.{◌≡◌, ◌<◌, ℕ, List, length, [], None, false, IfNone, IfOk, IfSome, MatchBool, MatchOption};
 ghost use Rattle.eventloop.specs.Rounds.{AllFree, KeepsMoments};
-ghost use Rattle.eventloop.specs.Working.{HasMadeRoom, HasOpened, HasLooked, HasRunAt, HasTurned, HasServedSome, state};
+ghost use Rattle.eventloop.specs.Working.{HasMadeRoom, HasOpened, HasLooked, HasRunAt, HasTurned, HasServedSome, at_least, state};
 ghost use Rattle.httpedge.specs.Session.{HasAsked, QueryOutcome};
 ghost use Rattle.turns.specs.Pressure.{NoneMay};
 ghost use Rattle.turns.specs.Runs.{HasRun};
@@ -191,10 +191,8 @@ impl<A: Asks, T: Transport + EndsEarly + Drop, P: Poller<T>> Worker<A, T, P> {
     // been asked.
     pub(crate) fn serve_some<C: TurnClock>(&mut self, clock: &C) -> bool
         ensures turns { MatchBool result
-            (HasTurned A.answers ⟦<T as Transport>⟧ (record { least = 1; now = self.old.now })
-            (state self.old) (state self.new))
-            (HasServedSome A.answers ⟦<T as Transport>⟧ (record { least = 64; now = self.old.now })
-            (state self.old) (state self.new)) }
+            (HasTurned A.answers ⟦<T as Transport>⟧ (at_least 1 self.old) (state self.old) (state self.new))
+            (HasServedSome A.answers ⟦<T as Transport>⟧ (at_least 64 self.old) (state self.old) (state self.new)) }
         ensures once { (queries : List QueryOutcome) × HasAsked A.answers self.old.asks queries self.new.asks }
         ensures run { HasRun A.answers ⟦<T as Transport>⟧ (state self.old) (state self.new) }
         ensures moments { KeepsMoments self.old self.new }

@@ -3,6 +3,7 @@ ghost use Rattle.httpedge.specs.Connection.{has_begun, step_of, target_of, is_cl
 ghost use Rattle.httpedge.specs.Exchange.{Said, IsReply, IsExchange};
 ghost use Rattle.httpedge.specs.Head.{IsTargetOf};
 ghost use Rattle.httpedge.specs.Meaning.{decision_meaning};
+ghost use Rattle.httpedge.specs.Feeding.{RespondsOn};
 ghost use Rattle.httpedge.specs.Session.{new_session, stage_after, wants, is_done, HasNamed, HasResponded, HasRespondedWith, QueryOutcome, HasAsked, says_as_listed};
 ghost use Rattle.httpedge.specs.Response.{HasStatus};
 ghost use Rattle.httpedge.specs.Serving.{IsReading, requests_left, came_of};
@@ -129,8 +130,7 @@ impl Session {
         ensures responded { (read written : List ℕ) (first : A) → HasResponded A.answers read first written self.old asks.old
             → HasResponded A.answers (read ++ take result piece.now) first written self.new asks.new }
         ensures said { (queries : List QueryOutcome) × HasAsked A.answers asks.old queries asks.new
-            × ((read written : List ℕ) (earlier : List QueryOutcome) → HasRespondedWith read earlier written self.old
-            → HasRespondedWith (read ++ take result piece.now) (earlier ++ queries) written self.new) }
+            × RespondsOn (take result piece.now) queries self.old self.new }
     {
         if !self.wants_more() {
             return 0;

@@ -1,5 +1,5 @@
 -- The reading of a file, whatever became of its end (docs/SERVICE.md, "Journal").
-use Rattle.std.specs.Prelude.{◌≡◌, ℕ, ◌+◌, ◌≤◌, List, ◌++◌, length}
+use Rattle.std.specs.Prelude.{◌≡◌, ℕ, ◌+◌, ◌≤◌, List, ◌++◌, length, take, drop, Option, MatchOption}
 use mathlib.Core.List.{IsPrefix}
 use Rattle.sha2.specs.Sha256.{sha256}
 use Rattle.journal.specs.Slip.{stuffed}
@@ -15,6 +15,19 @@ module _ (digest : List ℕ → List ℕ) (name : List ℕ) where
   -- some bytes are those between the two ENDs of a record, whatever its number
   abbrev pub IsRecordFrame : List ℕ → Type 0
   IsRecordFrame bytes = (sequence batch : List ℕ) × (length sequence ≡ 8) × (bytes ≡ stuffed (body digest name sequence batch))
+
+  -- some bytes are those between the two ENDs of the record of this number with this batch
+  abbrev pub IsFrameOf : ℕ → List ℕ → List ℕ → Type 0
+  IsFrameOf number batch bytes = bytes ≡ stuffed (body digest name (sequence_bytes number) batch)
+
+  -- the bytes of a number and a batch are in those between the two ENDs of a record
+  abbrev pub IsDecoded : List ℕ → List ℕ → Type 0
+  IsDecoded bytes decoded = (8 ≤ length decoded) × (bytes ≡ stuffed (body digest name (take 8 decoded) (drop 8 decoded)))
+
+  -- the record of this number is at the beginning of some bytes, before others; where none was found, none begins there
+  abbrev pub IsNextRecord : {V : Type 0} → (V → List ℕ) → ℕ → List ℕ → Option V → List ℕ → Type 0
+  IsNextRecord items number bytes found rest =
+      MatchOption found (StartsWithNumber number bytes → ⊥) (λ batch. bytes ≡ record_of digest name (sequence_bytes number) (items batch) ++ rest)
 
   -- some bytes begin with a whole record, whatever its number
   abbrev pub StartsWithRecord : List ℕ → Type 0

@@ -1,11 +1,11 @@
 //! Records: a batch with its number, and the digest of both.
 
-ghost use Rattle.std.specs.Prelude.{◌≡◌, ◌↔◌, ◌≤◌, ◌<◌, ◌-◌, ◌++◌, ◌∷◌, ℕ, List, length, take, drop, IfOk, IsTrue, MatchOption, OnOk};
+ghost use Rattle.std.specs.Prelude.{◌≡◌, ◌↔◌, ◌≤◌, ◌<◌, ◌-◌, ◌++◌, ℕ, List, length, take, drop, IfOk, IsTrue, MatchOption, OnOk};
 ghost use Rattle.sha2.specs.Sha256.{sha256};
 ghost use Rattle.journal.specs.Slip.{stuffed};
 ghost use Rattle.journal.specs.Name.{name_bytes};
 ghost use Rattle.journal.specs.Record.{body, sequence_bytes, record_of};
-ghost use Rattle.journal.specs.Reading.{IsRecordFrame};
+ghost use Rattle.journal.specs.Reading.{IsDecoded, IsFrameOf, IsRecordFrame};
 
 use crate::name::{JournalName, update_with_name};
 use crate::slip::{END, is_equal, push_stuffed, unstuff};
@@ -84,7 +84,7 @@ fn decode_frame(
 ) -> Result<Option<Vec<u8>>, AllocError>
     ensures { IfOk result (λ found. MatchOption found
         ((sequence batch : List ℕ) → length sequence ≡ 8 → frame.now ≡ stuffed (body sha256 (name_bytes name.now) sequence batch) → ⊥)
-        (λ decoded. (8 ≤ length decoded.items) × (frame.now ≡ stuffed (body sha256 (name_bytes name.now) (take 8 decoded.items) (drop 8 decoded.items))))) }
+        (λ decoded. IsDecoded sha256 (name_bytes name.now) frame.now decoded.items)) }
 {
     let Some(mut decoded) = unstuff(alloc, frame)? else {
         return Ok(None);
@@ -108,8 +108,8 @@ pub fn decode(
     frame: &[u8],
 ) -> Result<Option<Vec<u8>>, AllocError>
     ensures numbered { IfOk result (λ found. MatchOption found
-        ((batch : List ℕ) → frame.now ≡ stuffed (body sha256 (name_bytes name.now) (sequence_bytes number) batch) → ⊥)
-        (λ batch. frame.now ≡ stuffed (body sha256 (name_bytes name.now) (sequence_bytes number) batch.items))) }
+        ((batch : List ℕ) → IsFrameOf sha256 (name_bytes name.now) number batch frame.now → ⊥)
+        (λ batch. IsFrameOf sha256 (name_bytes name.now) number batch.items frame.now)) }
 {
     let Some(decoded) = decode_frame(alloc, name, frame)? else {
         return Ok(None);

@@ -1,4 +1,5 @@
 pub mod Blocks
+pub mod Channels
 pub mod Columns
 pub mod Fine
 pub mod Laws

@@ -1,5 +1,6 @@
 ghost use Rattle.std.specs.Prelude.{◌≡◌, ◌+◌, ◌*◌, ◌/◌, ◌%◌, ◌<◌, ◌≤◌, ◌↔◌, List, Option, length, IsTrue};
 ghost use Rattle.mapdefs.specs.declared.colour.Rgb.{Rgb as RgbValue};
+ghost use Rattle.smoothing.specs.Channels.{channel_means};
 ghost use Rattle.smoothing.specs.Mean.{mean_of, nearest};
 ghost use Rattle.smoothing.specs.Shares.{AreShares, IsWhole};
 ghost use Rattle.smoothing.specs.Sums.{AreSums};
@@ -36,12 +37,7 @@ impl Sums {
         requires green { self.inner % 65536 ≤ 255 * colours }
         requires blue { self.outer / 65536 ≤ 255 * colours }
         requires alpha { self.inner / 65536 ≤ 255 * count }
-        ensures { result ≡ record {
-          red = nearest (self.outer % 65536) colours;
-          green = nearest (self.inner % 65536) colours;
-          blue = nearest (self.outer / 65536) colours;
-          alpha = nearest (self.inner / 65536) count;
-        } }
+        ensures { result ≡ channel_means self colours count }
     {
         Rgba {
             red: nearest(self.outer % 65_536, colours),

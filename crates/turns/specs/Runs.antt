@@ -7,7 +7,7 @@ use Rattle.httpedge.specs.declared.stage.Stage.TheVariants.{Ended}
 use Rattle.turns.specs.Pressure.{IsFirst, IsWanted}
 use Rattle.turns.specs.Queue.{has, joins, before}
 use Rattle.turns.specs.Room.{is_size, line_after, waits_for}
-use Rattle.turns.specs.Slots.{at_slot, slot_state, OthersStay, HasTurn}
+use Rattle.turns.specs.Slots.{SlotState, at_slot, slot_state, OthersStay, HasTurn}
 use Rattle.turns.specs.Table.{Goes, connections, given_at, has_room, may_ask_at, ready_slots, size_at, waiting_for, waiting_slots, terms_at, is_pending, timeouts_of, KeepsLimits}
 use Rattle.turns.specs.Times.{deadline, is_over, is_draining, is_unanswered}
 use Rattle.turns.specs.declared.answer_size.AnswerSize.{AnswerSize}
@@ -16,6 +16,7 @@ use Rattle.turns.specs.declared.open_connection.OpenConnection.{OpenConnection}
 use Rattle.turns.specs.declared.pressure.Pressure.{Pressure}
 use Rattle.turns.specs.declared.outcomes.ReadOutcome.TheVariants as read
 use Rattle.turns.specs.declared.outcomes.WriteOutcome.TheVariants as write
+use Rattle.turns.specs.declared.served.Served.{Served}
 use Rattle.turns.specs.declared.table.ConnectionTable.{ConnectionTable}
 use Rattle.turns.specs.declared.turn.Next.{Next}
 use Rattle.turns.specs.declared.turn.Next.TheVariants.{Turn, Room}
@@ -43,6 +44,21 @@ pub record SlotTurn : Type 0 where
   pub asked : Bool
   pub now : ℕ
   pub ended : ℕ
+
+-- the turn that a table made which begins at a moment
+abbrev pub turn_of : {T : Type 0} → ConnectionTable T → ℕ → Served → SlotTurn
+turn_of table now served = record {
+  slot = served.slot;
+  given = given_at table served.slot;
+  next = served.next;
+  asked = served.asked;
+  now = now;
+  ended = served.ended;
+}
+
+-- what a slot of a table has, beside an answerer of its queries
+abbrev pub state_at : {A T : Type 0} → ConnectionTable T → ℕ → A → SlotState A T
+state_at table slot asks = slot_state (connections table) slot asks
 
 -- a step of a table: a connection comes to a slot, the connection at a slot may go on, a slot has its turn, or the connection at a slot leaves it for a
 -- reason

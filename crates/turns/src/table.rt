@@ -54,9 +54,9 @@ impl<T: Transport + Drop> ConnectionTable<T> {
     ghost use Rattle.turns.specs.declared.pressure.Pressure.TheVariants as pressure;
     ghost use Rattle.turns.specs.Queue.{has, joins};
     ghost use Rattle.turns.specs.Room.{is_size, line_after, waits_for};
-    ghost use Rattle.turns.specs.Runs.{HasRun, IsTurnOf};
-    ghost use Rattle.turns.specs.Slots.{slot_state, OthersStay, HasTurn};
-    ghost use Rattle.turns.specs.Table.{connections, given_at, lacks_room, may_ask_at, ready_slots, size_at, waiting_for, waiting_slots, timeouts_of, room_of, is_pending, terms_at, ClosedOrStayed, Goes, IsFull, KeepsLimits, LeftOrStayed};
+    ghost use Rattle.turns.specs.Runs.{HasRun, IsTurnOf, state_at, turn_of};
+    ghost use Rattle.turns.specs.Slots.{OthersStay, HasTurn};
+    ghost use Rattle.turns.specs.Table.{connections, lacks_room, may_ask_at, ready_slots, size_at, waiting_for, waiting_slots, timeouts_of, room_of, is_pending, terms_at, ClosedOrStayed, Goes, IsFull, KeepsLimits, LeftOrStayed};
     ghost use Rattle.turns.specs.Times.{deadline, is_unanswered};
     ghost use Rattle.turns.specs.declared.turn.Next.TheVariants.{Turn, Room};
 
@@ -154,21 +154,12 @@ impl<T: Transport + Drop> ConnectionTable<T> {
         ensures own { IfSome result
             (λ served. IfSome served.next
             (λ next. HasTurn A.answers ⟦<T as Transport>⟧ (terms_at self.old served.slot served.ended)
-            (slot_state (connections self.old) served.slot asks.old)
-            (slot_state (connections self.new) served.slot asks.new) next)) }
+            (state_at self.old served.slot asks.old) (state_at self.new served.slot asks.new) next)) }
         ensures others { IfSome result (λ served. OthersStay served.slot (connections self.old) (connections self.new)) }
         ensures run { HasRun A.answers ⟦<T as Transport>⟧ (record { table = self.old; asks = asks.old })
             (record { table = self.new; asks = asks.new }) }
         ensures step { IfSome result
-            (λ served. IsTurnOf A.answers ⟦<T as Transport>⟧ (record { table = self.old; asks = asks.old })
-            (record {
-              slot = served.slot;
-              given = given_at self.old served.slot;
-              next = served.next;
-              asked = served.asked;
-              now = now;
-              ended = served.ended;
-            })
+            (λ served. IsTurnOf A.answers ⟦<T as Transport>⟧ (record { table = self.old; asks = asks.old }) (turn_of self.old now served)
             (record { table = self.new; asks = asks.new })) }
         ensures once { IfSome result (λ _. (queries : List QueryOutcome) × HasAsked A.answers asks.old queries asks.new) }
         ensures unasked { IfSome result (λ served. served.asked ≡ false → (served.ended ≡ now) × (asks.new ≡ asks.old)) }

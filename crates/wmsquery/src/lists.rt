@@ -199,9 +199,8 @@ fn asked_indices(
     names: &[&str],
     queried: &[&str],
 ) -> Result<Items<usize>, QueryError>
-    ensures value { MatchResult result
-        (λ found. indices_of (asked map.now (each (λ x. x.now) names.now)) (each (λ x. x.now) queried.now) ≡ Ok found)
-        (IsErrorOf (checked parameter.QueryLayers (indices_of (asked map.now (each (λ x. x.now) names.now)) (each (λ x. x.now) queried.now)))) }
+    ensures value { let indices = indices_of (asked map.now (each (λ x. x.now) names.now)) (each (λ x. x.now) queried.now) in
+        MatchResult result (λ found. indices ≡ Ok found) (IsErrorOf (checked parameter.QueryLayers indices)) }
     ensures within { IfOk result (All (λ index. index < length map.now.layers)) }
 {
     let mut found = Items::new(alloc);

@@ -16,6 +16,12 @@ returns-clause-waits g c = λ next.
     rw c.of-served.ensures.slot (room-waits c.of-served.result.next _ c.waits_for-waits.result c.in_ok-slot.slot c.may_be_asked-may_ask.result c.args.self.now.waiting.small.order c.args.self.now.waiting.large.order _ _
     c.waits_for-waits.ensures c.settle-2.ensures.small c.settle-2.ensures.large next)
 
+pub returns-clause-small : goal.returns-clause-small
+returns-clause-small g c = rw c.of-served.ensures.slot (search rules)
+
+pub returns-clause-large : goal.returns-clause-large
+returns-clause-large g c = rw c.of-served.ensures.slot (search rules)
+
 pub returns-clause-step : goal.returns-clause-step
 returns-clause-step g c =
     let (rest, slots, first, later) = returns-clause-first g c in
@@ -38,8 +44,8 @@ returns-clause-step g c =
       turns = rw slot (search rules);
       waits = returns-clause-waits g c;
       keeps = search rules;
-      small = rw slot (search rules);
-      large = rw slot (search rules);
+      small = returns-clause-small g c;
+      large = returns-clause-large g c;
     }
 
 pub returns-clause-once : goal.returns-clause-once
