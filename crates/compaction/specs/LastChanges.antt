@@ -1,9 +1,10 @@
 -- The last commands that can undo others (docs/SERVICE.md, "Journal").
-use Rattle.std.specs.Prelude.{◌≡◌, ℕ, Bool, true, false, ◌&&◌, if◌then◌else◌, List, [], ◌∷◌, length}
+use Rattle.std.specs.Prelude.{◌≡◌, ℕ, Bool, true, false, ◌&&◌, if◌then◌else◌, List, [], ◌∷◌, ◌++◌, length}
 use Rattle.std.specs.Bool.{beq}
 use Rattle.mapdefs.specs.Name.{is_same_name}
 use Rattle.batches.specs.declared.command.Command.{Command}
 use Rattle.batches.specs.declared.command.Command.TheVariants.{On, Off, Clear, Append}
+use Rattle.compaction.specs.Compacted.{commands_in}
 use Rattle.compaction.specs.Undone.{last_undoing}
 use Rattle.compaction.specs.declared.last_changes.LastChange.{LastChange}
 
@@ -52,3 +53,7 @@ noting (Append name table) count last = last
 pub record AreLast (changes : Changes) (commands : List Command) : Type 0 where
   pub counted : changes.count ≡ length commands
   pub undoing : (command : Command) → last_noted command changes.last ≡ last_undoing command commands
+
+-- these are the last changes by some commands, those of a batch, and some later ones
+abbrev pub AreLastOf : Changes → List Command → List ℕ → List Command → Type 0
+AreLastOf changes earlier batch later = AreLast changes (earlier ++ (commands_in batch ++ later))

@@ -1,7 +1,7 @@
 ghost use Rattle.std.specs.Prelude.{◌≡◌, ◌<◌, ◌+◌, ◌++◌, List, [], length, position, OnOk, IfOk, IfSome};
 ghost use Rattle.batches.specs.declared.command.Command.{Command};
 ghost use Rattle.compaction.specs.Compacted.{commands_in, compacted_batch};
-ghost use Rattle.compaction.specs.LastChanges.{AreLast, changed, is_of, is_switch, last_noted, name_of, noting};
+ghost use Rattle.compaction.specs.LastChanges.{AreLast, AreLastOf, changed, is_of, is_switch, last_noted, name_of, noting};
 
 use batches::{Command, first_command};
 use mapdefs::Items;
@@ -150,7 +150,7 @@ impl LastChanges {
     /// Where memory is refused, or that is 2^64 or more, some of it may be added.
     pub fn add_left(&self, before: u64, batch: &[u8], out: &mut Vec<u8>) -> Result<u64, AllocError>
         ensures { IfOk result (λ after. (earlier later : List Command)
-            → AreLast self.now (earlier ++ (commands_in batch.now ++ later)) → before ≡ length earlier
+            → AreLastOf self.now earlier batch.now later → before ≡ length earlier
             → (out.new.items ≡ out.old.items ++ compacted_batch batch.now later) × (after ≡ length (earlier ++ commands_in batch.now))) }
     {
         let mut count = before;

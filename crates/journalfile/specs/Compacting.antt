@@ -2,14 +2,16 @@
 use Rattle.std.specs.Prelude.{◌≡◌, ◌⊎◌, ◌^◌, ℕ, ◌+◌, ◌-◌, ◌*◌, max, min, List, ◌++◌, length, drop, Option, None, Some}
 use Rattle.sha2.specs.Sha256.{sha256}
 use Rattle.compaction.specs.Compacted.{commands_of, compacted}
+use Rattle.compaction.specs.LastChanges.{AreLast, Changes}
 use Rattle.journal.specs.Name.{IsBounded, journal_name, name_bytes, skipped_of}
 use Rattle.journal.specs.declared.name.JournalName.{JournalName}
-use Rattle.journal.specs.Record.{records}
+use Rattle.journal.specs.Record.{journal_of, records}
 use Rattle.journal.specs.Reading.{StandsFor}
 use Rattle.journalfile.specs.Settled.{IsSettled}
 use Rattle.journalfile.specs.declared.checkpoint.Checkpoint.{Checkpoint}
 use Rattle.journalfile.specs.declared.reading.NotCompacted.{NotCompacted}
 use Rattle.journalfile.specs.declared.reading.Reader.{Reader}
+use Rattle.journalfile.specs.declared.reading.Records.{Records}
 use Rattle.journalfile.specs.declared.writing.Journal.{Journal}
 
 -- the first batches of a journal were read, and the records of the others follow
@@ -25,6 +27,15 @@ pub record HasLeft (file : List ℕ) (all written : List (List ℕ)) (reader : R
   pub read : HasRead file all done left reader
   pub commands : reader.commands ≡ length (commands_of done)
   pub is : compacted all ≡ written ++ compacted left
+
+-- this holds of all batches of a journal, where it has as many as its records say, and their last changes are these
+abbrev pub OfAll : List ℕ → Records → Changes → (List (List ℕ) → Type 0) → Type 0
+OfAll file records changes Holds =
+    (all : List (List ℕ)) → file ≡ journal_of sha256 (name_bytes records.name) all → records.count ≡ length all → AreLast changes (commands_of all) → Holds all
+
+-- these batches were written to a journal, under a name
+abbrev pub HasWritten : {L : Type 0} → (L → List ℕ) → JournalName → List (List ℕ) → Journal L → Type 0
+HasWritten content name batches journal = (content journal.log ≡ journal_of sha256 (name_bytes name) batches) × (journal.count ≡ length batches)
 
 -- how many of some batches are left out
 abbrev pub left_out : List (List ℕ) → ℕ

@@ -1,12 +1,9 @@
 //! A journal that is written again without the commands that later ones undo, and takes its own place.
 
 ghost use Rattle.std.specs.Prelude.{◌≡◌, ◌<◌, ◌≤◌, ◌+◌, ◌-◌, [], List, ℕ, None, Some, Ok, length, IfOk, OnOk};
-ghost use Rattle.sha2.specs.Sha256.{sha256};
-ghost use Rattle.compaction.specs.Compacted.{commands_of, compacted};
-ghost use Rattle.compaction.specs.LastChanges.{AreLast};
-ghost use Rattle.journal.specs.Name.{IsBounded, journal_name, name_bytes, skipped_of, written_of};
-ghost use Rattle.journal.specs.Record.{journal_of};
-ghost use Rattle.journalfile.specs.Compacting.{HasCompacted, IsCompacted, StandsForLeft, next_checkpoint};
+ghost use Rattle.compaction.specs.Compacted.{compacted};
+ghost use Rattle.journal.specs.Name.{IsBounded, journal_name, skipped_of, written_of};
+ghost use Rattle.journalfile.specs.Compacting.{HasCompacted, IsCompacted, OfAll, StandsForLeft, next_checkpoint};
 ghost use Rattle.journalfile.specs.Frames.{IsRead};
 ghost use Rattle.journalfile.specs.Keeping.{FileHas, JournalHas};
 ghost use Rattle.keepers.specs.Crashes.{LeavesOnly};
@@ -74,10 +71,8 @@ fn write_synced<L: Log>(
 ) -> Result<(), NotCompacted>
     requires empty { successor.old.count ≡ 0 }
     requires noted { L.reliable → NotesLength L.content successor.old }
-    ensures settled { L.reliable → L.content successor.old.log ≡ [] → OnOk result ((all : List (List ℕ))
-        → L.content log.old ≡ journal_of sha256 (name_bytes records.name) all → records.count ≡ length all → AreLast changes.now (commands_of all)
-        → written_of successor.old.name.compaction ≤ length (compacted all)
-        → IsSettled L.content L.may_leave successor.new (compacted all)) }
+    ensures settled { L.reliable → L.content successor.old.log ≡ [] → OnOk result (OfAll (L.content log.old) records changes.now
+        (λ all. written_of successor.old.name.compaction ≤ length (compacted all) → IsSettled L.content L.may_leave successor.new (compacted all))) }
     ensures synced { L.reliable → OnOk result (Only (L.content successor.new.log) (L.may_leave successor.new.log)) }
     ensures name { successor.new.name ≡ successor.old.name }
     ensures read { L.reliable → IsRead L.content L.may_leave L.moment L.left_since log.old log.new }

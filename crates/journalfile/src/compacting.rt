@@ -6,6 +6,7 @@ ghost use Rattle.compaction.specs.Compacted.{commands_of, compacted};
 ghost use Rattle.compaction.specs.LastChanges.{AreLast};
 ghost use Rattle.journal.specs.Name.{name_bytes};
 ghost use Rattle.journal.specs.Record.{header, journal_of, record_of, sequence_bytes};
+ghost use Rattle.journalfile.specs.Compacting.{HasWritten, OfAll};
 ghost use Rattle.journalfile.specs.Frames.{IsRead};
 ghost use Rattle.journalfile.specs.Settled.{NotesLength};
 
@@ -39,8 +40,7 @@ pub(crate) fn count_left<L: Log>(
     log: &mut L,
     changes: &LastChanges,
 ) -> Result<u64, NotCompacted>
-    ensures counted { L.reliable → IfOk result (λ count. (all : List (List ℕ)) → L.content log.old ≡ journal_of sha256 (name_bytes records.name) all
-        → records.count ≡ length all → AreLast changes.now (commands_of all) → count ≡ length (compacted all)) }
+    ensures counted { L.reliable → IfOk result (λ count. OfAll (L.content log.old) records changes.now (λ all. count ≡ length (compacted all))) }
     ensures fewer { IfOk result (λ count. count ≤ records.count) }
     ensures read { L.reliable → IsRead L.content L.may_leave L.moment L.left_since log.old log.new }
 {
@@ -108,10 +108,8 @@ pub(crate) fn write_left<L: Log>(
     successor: &mut Journal<L>,
 ) -> Result<(), NotCompacted>
     requires empty { successor.old.count ≡ 0 }
-    ensures written { L.reliable → L.content successor.old.log ≡ [] → OnOk result ((all : List (List ℕ))
-        → L.content log.old ≡ journal_of sha256 (name_bytes records.name) all → records.count ≡ length all → AreLast changes.now (commands_of all)
-        → (L.content successor.new.log ≡ journal_of sha256 (name_bytes successor.old.name) (compacted all))
-        × (successor.new.count ≡ length (compacted all))) }
+    ensures written { L.reliable → L.content successor.old.log ≡ [] → OnOk result (OfAll (L.content log.old) records changes.now
+        (λ all. HasWritten L.content successor.old.name (compacted all) successor.new)) }
     ensures noted { L.reliable → OnOk result (NotesLength L.content successor.old → NotesLength L.content successor.new) }
     ensures name { successor.new.name ≡ successor.old.name }
     ensures read { L.reliable → IsRead L.content L.may_leave L.moment L.left_since log.old log.new }

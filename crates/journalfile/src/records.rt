@@ -1,10 +1,9 @@
 //! The records of a journal that is read frame by frame.
 
-ghost use Rattle.std.specs.Prelude.{◌≡◌, ◌<◌, ◌≤◌, ◌^◌, ◌+◌, ◌++◌, drop, IfOk, IfSome, OnOk, MatchOption};
+ghost use Rattle.std.specs.Prelude.{◌<◌, ◌≤◌, ◌^◌, ◌+◌, drop, IfOk, IfSome, OnOk};
 ghost use Rattle.sha2.specs.Sha256.{sha256};
 ghost use Rattle.journal.specs.Name.{name_bytes};
-ghost use Rattle.journal.specs.Record.{sequence_bytes, record_of};
-ghost use Rattle.journal.specs.Reading.{StartsWithNumber};
+ghost use Rattle.journal.specs.Reading.{IsNextRecord};
 ghost use Rattle.journalfile.specs.Frames.{IsAhead, IsSearched, IsRead};
 
 use crate::frames::{Frames, ReadError};
@@ -21,10 +20,8 @@ pub(crate) fn next_record<L: Log>(
 ) -> Result<Option<Vec<u8>>, ReadError<L::Failure>>
     requires ahead { L.reliable → IsAhead (L.content log.old) frames.old }
     ensures ahead { L.reliable → OnOk result (IsAhead (L.content log.old) frames.new) }
-    ensures record { L.reliable → IfOk result (λ found. MatchOption found
-        (StartsWithNumber sha256 (name_bytes name.now) number (drop frames.old.position (L.content log.old)) → ⊥)
-        (λ batch. drop frames.old.position (L.content log.old)
-        ≡ record_of sha256 (name_bytes name.now) (sequence_bytes number) batch.items ++ drop frames.new.position (L.content log.old))) }
+    ensures record { L.reliable → IfOk result (λ found. IsNextRecord sha256 (name_bytes name.now) (λ batch. batch.items) number
+        (drop frames.old.position (L.content log.old)) found (drop frames.new.position (L.content log.old))) }
     ensures position { IfOk result (λ found. IfSome found (λ batch. frames.old.position + 2 ≤ frames.new.position)) }
     ensures bound { frames.new.position < 2 ^ 64 }
     ensures read { L.reliable → IsRead L.content L.may_leave L.moment L.left_since log.old log.new }

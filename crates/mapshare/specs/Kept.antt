@@ -1,8 +1,8 @@
 -- The submitted batches that are kept (docs/SERVICE.md, "Journal").
-use Rattle.std.specs.Prelude.{◌≡◌, ℕ, List, [], ◌∷◌, ◌++◌}
+use Rattle.std.specs.Prelude.{◌≡◌, ◌⊎◌, ℕ, List, [], ◌∷◌, ◌++◌}
 use mathlib.Core.List.{IsPrefix}
 use Rattle.batches.specs.Batch.{State}
-use Rattle.mapshare.specs.Admin.{Batches, IsAccepted, with_batches}
+use Rattle.mapshare.specs.Admin.{Batches, IsAccepted, with_batch, with_batches}
 use Rattle.mapshare.specs.declared.admin.Submitted.{Submitted}
 use Rattle.mapshare.specs.declared.admin.Submitted.TheVariants as submitted
 
@@ -17,3 +17,8 @@ HasKept keeps old batches batch submitted.NoMemory new = new ≡ old
 abbrev pub StandsWithAccepted : {K : Type 0} → State → Batches → (K → List ℕ → List (List ℕ) → Type 0) → K → List (List ℕ) → List (List ℕ) → List ℕ → Type 0
 StandsWithAccepted opening old stands keeper kept more file =
     (first : List (List ℕ)) × IsPrefix first more × IsAccepted opening (with_batches first old) × stands keeper file (kept ++ first)
+
+-- a file stands for the batches that were kept, and one more after them, or not; that one is accepted
+abbrev pub StandsWithOne : {K : Type 0} → State → Batches → (K → List ℕ → List (List ℕ) → Type 0) → K → List (List ℕ) → List ℕ → List ℕ → Type 0
+StandsWithOne opening old stands keeper kept batch file =
+    stands keeper file kept ⊎ (IsAccepted opening (with_batch batch old) × stands keeper file (kept ++ batch ∷ []))

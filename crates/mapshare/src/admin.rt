@@ -1,4 +1,4 @@
-ghost use Rattle.std.specs.Prelude.{◌≡◌, ◌↔◌, ◌⊎◌, ◌+◌, ◌≤◌, ◌<◌, ◌++◌, ℕ, List, [], ◌∷◌, drop, length, take};
+ghost use Rattle.std.specs.Prelude.{◌≡◌, ◌↔◌, ◌⊎◌, ◌+◌, ◌≤◌, ◌<◌, ◌++◌, ℕ, List, [], drop, length, take};
 ghost use Rattle.std.specs.Prelude.{IsSome, IfOk, IsErrOf, IsTrue, MatchBool, MatchResult, OnErr, OnOk};
 ghost use Rattle.std.specs.VecDeque.{deque_len, deque_capacity};
 ghost use Rattle.sharing.specs.Sharing.{after};
@@ -8,7 +8,7 @@ ghost use Rattle.journal.specs.Texts.{texts_of};
 ghost use Rattle.keepers.specs.Crashes.{LeavesOnly};
 ghost use Rattle.keepers.specs.declared.cause.LogCause.TheVariants.{Overtaken};
 ghost use Rattle.mapshare.specs.Admin.{HasAccepted, HasRetried, HasSubmitted, IsAccepted, IsIdle, IsPublished, all_of, with_batch, with_batches};
-ghost use Rattle.mapshare.specs.Kept.{HasKept, StandsWithAccepted};
+ghost use Rattle.mapshare.specs.Kept.{HasKept, StandsWithAccepted, StandsWithOne};
 ghost use Rattle.mapshare.specs.Queue.{IsChain};
 
 use crate::checking::{Accepted, check, keep_and_copy};
@@ -165,10 +165,10 @@ fn show_waiting<S: Sharing, R: Wait>(
     last: &Prefix<S>,
 ) -> (MapWriter<S>, bool)
     requires chain { IsChain S.opening writer.desk.shown.value.prefix (drop writer.behind writer.log.items ++ queue.old.items) last.now }
-    ensures { MatchBool result.1
-        ((result.0.desk.shown.value.prefix ≡ last.now) × (drop result.0.behind result.0.log.items ++ queue.new.items ≡ []))
-        ((result.0.desk.shown.value.prefix ≡ writer.desk.shown.value.prefix)
-        × (drop result.0.behind result.0.log.items ++ queue.new.items ≡ drop writer.behind writer.log.items ++ queue.old.items)) }
+    ensures shown { MatchBool result.1 (result.0.desk.shown.value.prefix ≡ last.now)
+        (result.0.desk.shown.value.prefix ≡ writer.desk.shown.value.prefix) }
+    ensures left { MatchBool result.1 (drop result.0.behind result.0.log.items ++ queue.new.items ≡ [])
+        (drop result.0.behind result.0.log.items ++ queue.new.items ≡ drop writer.behind writer.log.items ++ queue.old.items) }
 {
     if !fill(&mut writer, queue) {
         return (writer, false);
@@ -359,8 +359,7 @@ impl<S: Sharing, K: Keeps> Admin<S, K> {
 
         // A crash at any moment leaves the batches, with this one, where it is accepted, or without it.
         ensures any_moment { K.reliable → (batches : List (List ℕ)) → K.keeps keeper.old batches → LeavesOnly K.moment K.left_since keeper.old keeper.new
-            (λ file. K.stands keeper.old file batches
-            ⊎ (IsAccepted S.opening (with_batch batch.items self) × K.stands keeper.old file (batches ++ batch.items ∷ []))) }
+            (StandsWithOne S.opening self K.stands keeper.old batches batch.items) }
     {
         let refused = match self.accept_kept(keeper, from_ref(&batch)) {
             Ok(accepted) => accepted.refused,
