@@ -15,7 +15,8 @@ tools/, and of bench/results/, which says what was, the links. Looked for are
 - edits that must fail, by their names that end in .edit, and what tools/planted.csv names (lib/mutants.py);
 - clauses: `name` behind the word clause;
 - each crate of crates.txt: what it depends on above it, and its line in crates/README.md below the same heading;
-- each cell of tools/rules.csv, and whether docs/developers/RULES.md is the page that it gives (lib/rules.py).
+- each cell of tools/rules.csv, and whether docs/developers/RULES.md is the page that it gives (lib/rules.py);
+- each heading and each code word of the five pages of rules, by which one looks for a row there (lib/lookups.py).
 
 With --write that page is made anew, and nothing is looked for. What a merge left in a document counts as one that isn't
 there. The script prints each that isn't there, with the file and the line of the document, and at the end how many names
@@ -27,6 +28,7 @@ import sys
 
 sys.path.insert(0, str(pathlib.Path(__file__).resolve().parent / "lib"))
 
+import lookups
 import mutants
 import rules
 from crates import CLAUSES, CRATES, declares
@@ -183,6 +185,7 @@ def found():
         yield from found_in(document, finders_of(document, results))
     yield from found_crates()
     yield from rules.check(CRATES)
+    yield from lookups.check(rules.rows())
 
 
 def main():
