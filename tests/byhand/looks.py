@@ -5,11 +5,18 @@ Usage: looks.py PROGRAM [PICTURES]
 
 The maps are roads of three widths with casings, coasts, a town of 2,000 houses with outlines, and places with names and
 halos. Six views of each, 480 by 320 pixels, are drawn by PROGRAM, smoothed by 4, and by MapServer, by one mapfile but for the
-font. For each map it prints the mean difference of a channel, of 255, and the share of the pixels of which a channel differs
-by more than 64: the mean of the views, and the worst. With PICTURES, a folder, it writes the first view of each map there,
-this server's beside MapServer's. It ends with 1 where the mean of a map without names is above 2.5, or above 1 % of its
-pixels differ by that much, and with 77 where a package is missing. It needs Debian's python3-mapscript, python3-pil,
-otf2bdf and fonts-dejavu-core.
+font. For each map it prints the mean difference of a channel, of 255, and the share of the pixels that are far, of which a
+channel differs by more than 64: the mean of the views, and the worst. With PICTURES, a folder, it writes the first view of each
+map there, this server's beside MapServer's.
+
+MapServer draws everything half a pixel further left and up. Its extents end in the middles of the border pixels, so it makes the
+box of WMS, which ends at their outer sides, half a pixel smaller on each side. Then it draws what lies in the middle of a pixel at
+that pixel's upper left corner. So it is asked for the box half a pixel further west and north, and both pictures show the same.
+For the same box the figures are printed too, and first where the middle of a square lies.
+
+It ends with 1 where those middles differ, where the mean of a map without names is above 2.5, or where above 1 % of its pixels
+differ by that much, and with 77 where a package is missing. It needs Debian's python3-mapscript, python3-pil, otf2bdf and
+fonts-dejavu-core.
 """
 import importlib.util
 import math
@@ -29,6 +36,8 @@ SANS = "/usr/share/fonts/truetype/dejavu/DejaVuSans.ttf"
 SIZE, FACTOR, FAR = (480, 320), 4, 64
 # The most that a map without names may differ: in the mean, and by more than FAR in so many of a hundred pixels.
 MOST_MEAN, MOST_FAR = 2.5, 1.0
+# So many pixels further left and up MapServer draws; so near to one another are middles that are the same.
+ASIDE, NEAR = 0.5, 0.01
 HEAD = f"""MAP NAME "looks" EXTENT -180 -90 180 90 SIZE 480 320 UNITS DD IMAGECOLOR 250 250 245 FONTSET "fonts.list"
 CONFIG "WMS_SMOOTHING" "{FACTOR}" CONFIG "LABELFONT" "labels.bdf" PROJECTION "init=epsg:4326" END
 WEB METADATA "wms_enable_request" "*" "wms_title" "looks" "wms_srs" "EPSG:4326 CRS:84" "wms_onlineresource" "http://localhost/wms?" END END
@@ -52,7 +61,7 @@ def stroke(colour, width):
 
 
 def views_in(rng, box, span):
-    """Six boxes of so many degrees across, within another."""
+    """Six boxes of so many degrees across, within another. Half a pixel is a whole number of millionths, so that a moved box can be written."""
     west, south, east, north = box
     height = span * SIZE[1] / SIZE[0]
     for _ in range(6):
@@ -65,7 +74,7 @@ def roads(rng):
     lines = {width: [[wander(rng, 0.02, length)] for _ in range(count)] for width, count, length in ((1, 60, 8), (3, 25, 14), (6, 9, 20))}
     layers = [layer(f"casing{width}", "LINE", stroke("90 90 90", width + 2), ((parts, None) for parts in lines[width])) for width in lines]
     layers += [layer(f"road{width}", "LINE", stroke(colour, width), ((parts, None) for parts in lines[width])) for width, colour in ((1, "255 255 255"), (3, "255 240 150"), (6, "250 170 90"))]
-    return layers, list(views_in(rng, (0, 0, 0.3, 0.2), 0.08))
+    return layers, list(views_in(rng, (0, 0, 0.3, 0.2), 0.0768))
 
 
 def wander(rng, step, length):
@@ -99,7 +108,7 @@ def town(rng):
         corners = [(across * long, down * wide) for across, down in ((-1, -1), (1, -1), (1, 1), (-1, 1))]
         houses.append(([[(x + a * math.cos(turn) - b * math.sin(turn), y + a * math.sin(turn) + b * math.cos(turn)) for a, b in corners]], None))
     styles = "STYLE COLOR 225 205 190 OUTLINECOLOR 130 90 70 WIDTH 1 END"
-    return [layer("town", "POLYGON", styles, ((parts_closed(parts), text) for parts, text in houses))], list(views_in(rng, (0, 0, 0.06, 0.04), 0.012))
+    return [layer("town", "POLYGON", styles, ((parts_closed(parts), text) for parts, text in houses))], list(views_in(rng, (0, 0, 0.06, 0.04), 0.01152))
 
 
 def names(rng):
@@ -118,8 +127,37 @@ def differences(one, other):
     return sum(ImageStat.Stat(part).mean[0] for part in parts) / 3, 100 * ImageStat.Stat(most).mean[0] / 255
 
 
+def moved(box):
+    """The box of which MapServer draws what this server draws of a box."""
+    west, south, east, north = box
+    across, up = ASIDE * (east - west) / SIZE[0], ASIDE * (north - south) / SIZE[1]
+    return west - across, south + up, east - across, north + up
+
+
+def middle(picture):
+    """How far the middle of what is dark lies from the left and from the top, in pixels."""
+    pixels = [(at, 255 - shade) for at, shade in enumerate(picture.convert("L").getdata()) if shade < 255]
+    dark = sum(shade for _, shade in pixels)
+    across = sum((at % SIZE[0] + 0.5) * shade for at, shade in pixels)
+    down = sum((at // SIZE[0] + 0.5) * shade for at, shade in pixels)
+    return across / dark, down / dark
+
+
+def middles(program):
+    """The middle of a square, which lies 150 columns and 180 rows away: here, by MapServer of the moved box, and by it of the same one."""
+    corners = [(10, 10), (20, 10), (20, 18), (10, 18), (10, 10)]
+    with tempfile.TemporaryDirectory() as name:
+        folder = pathlib.Path(name)
+        write_fonts(folder)
+        drawn = both(program, folder, [layer("square", "POLYGON", "STYLE COLOR 0 0 0 END", [([corners], None)])], [(0, 0, 48, 32)])
+    return [middle(views[0]) for views in drawn]
+
+
 def both(program, folder, layers, boxes):
-    """Views by this server, and by MapServer, of one mapfile: MapServer's squares are a symbol's, and its lines are told to be round."""
+    """Views by this server, by MapServer of the moved boxes and by it of the same ones, of one mapfile.
+
+    In MapServer's the squares are a symbol's, and lines are told to be round.
+    """
     import mapscript
     from mapconvert.compare import by_mapserver, by_mapservd
 
@@ -129,30 +167,39 @@ def both(program, folder, layers, boxes):
     styles = re.sub(r"(WIDTH \d+) END", r"\1 LINECAP ROUND LINEJOIN ROUND END", "".join(layers).replace("STYLE SIZE", 'STYLE SYMBOL "square" SIZE'))
     (folder / "theirs.map").write_text(f"{HEAD}{square}{styles}END\n")
     ours = by_mapservd(program, str(folder / "ours.map"), named, boxes, SIZE)
-    theirs = [by_mapserver(mapscript.mapObj(str(folder / "theirs.map")), named, box, *SIZE) for box in boxes]
-    return ours, theirs
+    theirs, same = ([by_mapserver(mapscript.mapObj(str(folder / "theirs.map")), named, box, *SIZE) for box in asked] for asked in (map(moved, boxes), boxes))
+    return ours, theirs, same
 
 
 def beside(one, other, path):
-    """Writes two pictures side by side."""
+    """Writes two pictures side by side, in at most 256 colours, for which the file is a third as long."""
     from PIL import Image
 
     pair = Image.new("RGB", (2 * SIZE[0] + 8, SIZE[1]), (255, 255, 255))
     pair.paste(one, (0, 0))
     pair.paste(other, (SIZE[0] + 8, 0))
-    pair.save(path, optimize=True)
+    pair.quantize(256, dither=Image.Dither.NONE).save(path, optimize=True)
+
+
+def write_fonts(folder):
+    """The font of both servers: as MapServer names it, and as this one reads it."""
+    (folder / "fonts.list").write_text(f"sans {SANS}\n")
+    (folder / "labels.bdf").write_bytes(subprocess.run([TOP / "deploy" / "font", SANS, "--smoothing", str(FACTOR)], capture_output=True, check=True).stdout)
 
 
 def compared(program, make, pictures):
-    """The mean differences and the shares of a map's views."""
+    """The mean differences of a map's views from MapServer's and the shares that are far: of the moved boxes, and of the same ones."""
     with tempfile.TemporaryDirectory() as name:
         folder = pathlib.Path(name)
-        (folder / "fonts.list").write_text(f"sans {SANS}\n")
-        (folder / "labels.bdf").write_bytes(subprocess.run([TOP / "deploy" / "font", SANS, "--smoothing", str(FACTOR)], capture_output=True, check=True).stdout)
-        ours, theirs = both(program, folder, *make(random.Random(7)))
+        write_fonts(folder)
+        ours, theirs, same = both(program, folder, *make(random.Random(7)))
     if pictures:
         beside(ours[0], theirs[0], pictures / f"{make.__name__}.png")
-    return list(zip(*(differences(*pair) for pair in zip(ours, theirs))))
+    return [list(zip(*(differences(*pair) for pair in zip(ours, those)))) for those in (theirs, same)]
+
+
+def mean(numbers):
+    return sum(numbers) / len(numbers)
 
 
 def main():
@@ -162,13 +209,16 @@ def main():
         print(f"looks: skipped: {', '.join(lacking)} is missing")
         sys.exit(77)
     program, pictures = str(pathlib.Path(sys.argv[1]).resolve()), pathlib.Path(sys.argv[2]) if len(sys.argv) > 2 else None
-    is_far = False
-    print("| Map | Mean difference of a channel | Pixels that differ by more than 64, % |\n|---|---|---|", flush=True)
+    here, theirs, same = middles(program)
+    print("The middle of a square: {:.2f}, {:.2f} here; {:.2f}, {:.2f} and of the same box {:.2f}, {:.2f} by MapServer\n".format(*here, *theirs, *same), flush=True)
+    is_far = any(abs(one - other) > NEAR for one, other in zip(here, theirs))
+    print("| Map | Mean difference | Pixels that are far, % | Of the same box | Pixels that are far, % |\n|---|---|---|---|---|", flush=True)
     for make in (roads, coasts, town, names):
-        means, shares = compared(program, make, pictures)
-        mean, share = sum(means) / len(means), sum(shares) / len(shares)
-        is_far = is_far or make is not names and (mean > MOST_MEAN or share > MOST_FAR)
-        print(f"| {make.__name__} | {mean:.2f} ({max(means):.2f}) | {share:.2f} ({max(shares):.2f}) |", flush=True)
+        found = compared(program, make, pictures)
+        (means, shares), _ = found
+        is_far = is_far or make is not names and (mean(means) > MOST_MEAN or mean(shares) > MOST_FAR)
+        cells = (f"{mean(numbers):.2f} ({max(numbers):.2f})" for pair in found for numbers in pair)
+        print(f"| {make.__name__} | {' | '.join(cells)} |", flush=True)
     sys.exit(is_far)
 
 
