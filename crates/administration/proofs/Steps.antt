@@ -1,6 +1,6 @@
 -- The client of an administrator, command by command.
 use Rattle.std.proofs.Common.{◌≡◌, ℕ, Bool, ◌||◌, true, false, List, [], ◌∷◌, ◌++◌, Option, None, Some, inl, inr, refl, append_assoc, append-nil}
-use Rattle.std.specs.Prelude.{Result, Ok, Err, OnOk, OnErr, MatchResult, MatchOption}
+use Rattle.std.specs.Prelude.{Result, Ok, Err, IfNone, OnOk, OnErr, MatchResult, MatchOption}
 use Rattle.std.specs.Result.{is_err}
 use Rattle.std.proofs.KnownBytes.{Consumes-nil, Consumes-trans}
 use Rattle.std.proofs.lemmas.List.Folds.{list_any-append}
@@ -172,6 +172,10 @@ good-match (Err x) P Q S none f p = absurd (none x refl)
 pub known-match : {T E : Type 0} (r : Result T E) (P : T → Type 0) (Q : E → Type 0) (S : Type 0) → is_err r ≡ false → ((x : T) → P x → S) → MatchResult r P Q → S
 known-match (Ok x) P Q S e f p = f x p
 known-match (Err x) P Q S e f p = cc
+
+pub none-so : {X : Type 0} (o : Option X) (P : Type 0) → ((x : X) → o ≡ Some x → ⊥) → IfNone o P → P
+none-so None P other p = p
+none-so (Some x) P other p = absurd (other x refl)
 
 pub known-none : {X : Type 0} (o : Option X) (P : Type 0) (Q : X → Type 0) → ((x : X) → o ≡ Some x → ⊥) → MatchOption o P Q → P
 known-none None P Q other p = p

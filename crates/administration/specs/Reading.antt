@@ -1,5 +1,5 @@
 -- How commands are read from a stream (docs/SERVICE.md, "Administration").
-use Rattle.std.specs.Prelude.{◌≡◌, ◌⊎◌, ℕ, Bool, true, List, [], ◌∷◌, ◌++◌, Option, None, Some, IfSome, map}
+use Rattle.std.specs.Prelude.{◌≡◌, ◌⊎◌, ◌<◌, ℕ, Bool, true, List, [], ◌∷◌, ◌++◌, Option, None, Some, IfSome, length, map}
 use Rattle.std.specs.Io.KnownBytes.{Consumes, IsAtEnd}
 use Rattle.administration.specs.Commands.{Command, Submit, Publish, Malformed, command_of, first_command}
 use Rattle.administration.specs.declared.line.ClientLine.{ClientLine}
@@ -15,6 +15,14 @@ pub record HasEnded (before after : Option (List ℕ)) (failed : Bool) (bytes : 
   pub read : Consumes before after bytes
   pub end : IsAtEnd after ⊎ (failed ≡ true)
 
+-- fewer bytes than so many were read, and then no more came
+abbrev pub HasEndedWithin : Option (List ℕ) → Option (List ℕ) → Bool → ℕ → Type 0
+HasEndedWithin before after failed count = (bytes : List ℕ) × HasEnded before after failed bytes × (length bytes < count)
+
+-- bytes were read in which no command ends, and then no more came
+abbrev pub HasNoCommand : Option (List ℕ) → Option (List ℕ) → Bool → Type 0
+HasNoCommand before after failed = (bytes : List ℕ) × HasEnded before after failed bytes × (first_command bytes ≡ None)
+
 -- whatever follows these bytes, they are a line with this meaning
 abbrev pub IsLineOf : List ℕ → ClientLine → Type 0
 IsLineOf bytes line = (more : List ℕ) → first_command (bytes ++ more) ≡ command_of line more
@@ -29,6 +37,10 @@ IsHeldOf (Submit bytes) (asked.Batch held) = IfSome held (λ batch. batch.items 
 IsHeldOf Publish asked.Retry = Unit {0}
 IsHeldOf Malformed asked.Malformed = Unit {0}
 IsHeldOf command asked = ⊥
+
+-- a command was read, of which this is held
+abbrev pub HasReadCommand : Option (List ℕ) → Option (List ℕ) → ReadCommand → Type 0
+HasReadCommand before after held = (bytes : List ℕ) × (command : Command) × Consumes before after bytes × IsCommandOf bytes command × IsHeldOf command held
 
 -- some bytes begin with these commands, and a rest follows
 abbrev pub StartWith : List Command → List ℕ → List ℕ → Type 0
@@ -51,7 +63,7 @@ abbrev pub HasNext : Option (List ℕ) → Option (List ℕ) → Bool → Next �
 HasNext before after failed next.Nothing = after ≡ before
 HasNext before after failed (next.Command what) =
     (bytes : List ℕ) × (command : Command) × Consumes before after bytes × IsCommandOf bytes command × IsOther command what
-HasNext before after failed next.End = (bytes : List ℕ) × HasEnded before after failed bytes × (first_command bytes ≡ None)
+HasNext before after failed next.End = HasNoCommand before after failed
 
 -- these batches were read, and what follows them
 pub record HasReadGroup (before after : Option (List ℕ)) (failed : Bool) (batches : List (List ℕ)) (then : Next) : Type 0 where

@@ -1,7 +1,7 @@
-ghost use Rattle.std.specs.Prelude.{◌≡◌, ◌<◌, ◌++◌, ℕ, List, [], ◌∷◌, length, IfSome, MatchOption, None};
+ghost use Rattle.std.specs.Prelude.{◌≡◌, ◌++◌, ℕ, List, [], ◌∷◌, length, IfSome, MatchOption, None};
 ghost use Rattle.std.specs.Io.KnownBytes.{Consumes};
-ghost use Rattle.administration.specs.Commands.{Command, Submit, first_command};
-ghost use Rattle.administration.specs.Reading.{HasEnded, IsCommandOf, IsHeldOf, IsLineOf};
+ghost use Rattle.administration.specs.Commands.{Submit};
+ghost use Rattle.administration.specs.Reading.{HasEnded, HasEndedWithin, HasNoCommand, HasReadCommand, IsHeldOf, IsLineOf};
 
 use crate::line::{ClientLine, MAX_LINE_BYTES, line_of};
 use std::alloc::Global;
@@ -37,7 +37,7 @@ fn read_byte<I: Source>(reader: &mut I) -> Option<u8>
 // Reads a line, byte by byte, so that nothing after it is taken.
 fn read_line<I: Source>(reader: &mut I) -> Option<ClientLine>
     ensures { MatchOption result
-        ((bytes : List ℕ) × HasEnded (I.left reader.old) (I.left reader.new) (I.take_failed reader.new) bytes × (first_command bytes ≡ None))
+        (HasNoCommand (I.left reader.old) (I.left reader.new) (I.take_failed reader.new))
         (λ line. (bytes : List ℕ) × Consumes (I.left reader.old) (I.left reader.new) bytes × IsLineOf bytes line) }
 {
     let mut text = [0; MAX_LINE_BYTES];
@@ -65,7 +65,7 @@ fn hold(held: Option<Vec<u8>>, piece: &[u8]) -> Option<Vec<u8>>
 // Reads the bytes of a batch. Those that can't be held are read all the same.
 fn read_batch<I: Source>(alloc: Global, reader: &mut I, count: usize) -> Option<ReadCommand>
     ensures { MatchOption result
-        ((bytes : List ℕ) × HasEnded (I.left reader.old) (I.left reader.new) (I.take_failed reader.new) bytes × (length bytes < count))
+        (HasEndedWithin (I.left reader.old) (I.left reader.new) (I.take_failed reader.new) count)
         (λ asked. (bytes : List ℕ) × Consumes (I.left reader.old) (I.left reader.new) bytes × (length bytes ≡ count) × IsHeldOf (Submit bytes) asked) }
 {
     let mut held = Vec::with_capacity(alloc, count).ok();
@@ -86,9 +86,8 @@ fn read_batch<I: Source>(alloc: Global, reader: &mut I, count: usize) -> Option<
 /// fails.
 pub(crate) fn read_command<I: Source>(alloc: Global, reader: &mut I) -> Option<ReadCommand>
     ensures { MatchOption result
-        ((bytes : List ℕ) × HasEnded (I.left reader.old) (I.left reader.new) (I.take_failed reader.new) bytes × (first_command bytes ≡ None))
-        (λ asked. (bytes : List ℕ) × (command : Command) × Consumes (I.left reader.old) (I.left reader.new) bytes × IsCommandOf bytes command
-        × IsHeldOf command asked) }
+        (HasNoCommand (I.left reader.old) (I.left reader.new) (I.take_failed reader.new))
+        (HasReadCommand (I.left reader.old) (I.left reader.new)) }
 {
     match read_line(reader)? {
         ClientLine::Batch(count) => read_batch(alloc, reader, count),
