@@ -102,9 +102,9 @@ impl<'a> Walker<'a> {
         token: &Token<'a>,
         alloc: Global,
     ) -> Result<(), ParseFault>
-        ensures { MatchResult result
-            (λ _. stepped (standing (inner.entry ∷ self.old.openings) self.old.drafts) token.now ≡ Ok (standing self.new.openings self.new.drafts))
-            (IsStop (standing (inner.entry ∷ self.old.openings) self.old.drafts) token.now self.new.openings) }
+        ensures { let old = standing (inner.entry ∷ self.old.openings) self.old.drafts in MatchResult result
+            (λ _. stepped old token.now ≡ Ok (standing self.new.openings self.new.drafts))
+            (IsStop old token.now self.new.openings) }
     {
         match self.drafts.read_token(alloc, &inner.context, token) {
             Ok(next) => match go_on(&mut self.openings, inner, next, token) {

@@ -55,9 +55,8 @@ fn finished_layer(
     end: &Token,
     alloc: Global,
 ) -> Result<LayerTree, ParseFault>
-    ensures { MatchResult result
-        (λ layer. finished_layer (last (text_in Name) body.values) (last geometry_in body.values) body earlier.now end.now ≡ Ok layer)
-        (IsErrorOf (finished_layer (last (text_in Name) body.values) (last geometry_in body.values) body earlier.now end.now)) }
+    ensures { let said = finished_layer (last (text_in Name) body.values) (last geometry_in body.values) body earlier.now end.now in
+        MatchResult result (λ layer. said ≡ Ok layer) (IsErrorOf said) }
 {
     let name = body.values.text(TextKeyword::Name);
     let (Some(name), Some(geometry)) = (name, body.values.geometry()) else {
