@@ -5,3 +5,4 @@ pub mod Explaining
 pub mod Hosts
 pub mod Journals
 pub mod Performing
+pub mod Requests

@@ -212,22 +212,40 @@ Left = Option (List ℕ)
 abbrev pub file_of : {P L : Type 0} → HostView P L → List ℕ → ReadFile
 file_of host path = record { name = path; unread_for = host.unread_for path }
 
+-- the result of checking the mapfile of a path
+abbrev pub PerformsCheck : {P L : Type 0} → HostView P L → List ℕ → Bool → Outcome → ConsoleState → ConsoleState → Type 0
+PerformsCheck host name explains outcome old new =
+    (parent : List ℕ) × IsParent name parent × (after : Left)
+    × ChecksTo (record { gives = gives_in host.file parent; explains = explains }) outcome (file_of host name)
+    (record { before = host.file name; after = after }) old new
+
+-- the paths of a mapfile and of a script
+pub record RunPaths : Type 0 where
+  pub mapfile : List ℕ
+  pub script : List ℕ
+
+-- the result of playing a script on the map of a mapfile, both by their paths
+abbrev pub PerformsRun : {P L : Type 0} → HostView P L → RunPaths → Bool → Outcome → ConsoleState → ConsoleState → Type 0
+PerformsRun host paths explains outcome old new =
+    (parent : List ℕ) × IsParent paths.mapfile parent × (after : Left) × (script_after : Left)
+    × RunsTo (record { gives = gives_in host.file parent; explains = explains }) outcome
+    (record { mapfile = file_of host paths.mapfile; script = file_of host paths.script })
+    (record {
+      mapfile = record { before = host.file paths.mapfile; after = after };
+      script = record { before = host.file paths.script; after = script_after };
+    }) old new
+
+-- the result of serving the map of the mapfile of a path
+abbrev pub PerformsServe : {P L : Type 0} → HostView P L → List ℕ → Requested → EndingValue P L → ConsoleState → ConsoleState → Type 0
+PerformsServe host name requested ending old new =
+    (parent : List ℕ) × IsParent name parent × (after : Left)
+    × ServesTo host requested (record { file = file_of host name; gives = gives_in host.file parent; before = host.file name; after = after }) ending old new
+
 -- the result of performing a command, by its end. The files that a mapfile names are those of its folder; a session's are those of the current one
 abbrev pub Performs : {P L : Type 0} → HostView P L → Command → EndingValue P L → ConsoleState → ConsoleState → Type 0
 Performs host Session ending old new = PlaysTo (gives_in host.file []) ending.outcome old new × ServesNothing ending
-Performs host (Check name explains) ending old new =
-    ((parent : List ℕ) × IsParent name.now parent × (after : Left)
-    × ChecksTo (record { gives = gives_in host.file parent; explains = explains }) ending.outcome (file_of host name.now)
-    (record { before = host.file name.now; after = after }) old new) × ServesNothing ending
+Performs host (Check name explains) ending old new = PerformsCheck host name.now explains ending.outcome old new × ServesNothing ending
 Performs host (Run name script explains) ending old new =
-    ((parent : List ℕ) × IsParent name.now parent × (after : Left) × (script_after : Left)
-    × RunsTo (record { gives = gives_in host.file parent; explains = explains }) ending.outcome
-    (record { mapfile = file_of host name.now; script = file_of host script.now })
-    (record {
-      mapfile = record { before = host.file name.now; after = after };
-      script = record { before = host.file script.now; after = script_after };
-    }) old new) × ServesNothing ending
+    PerformsRun host (record { mapfile = name.now; script = script.now }) explains ending.outcome old new × ServesNothing ending
 Performs host (Serve name explains service journal) ending old new =
-    (parent : List ℕ) × IsParent name.now parent × (after : Left)
-    × ServesTo host (record { explains = explains; journal = option_map (λ text. text.now) journal; service = service })
-    (record { file = file_of host name.now; gives = gives_in host.file parent; before = host.file name.now; after = after }) ending old new
+    PerformsServe host name.now (record { explains = explains; journal = option_map (λ text. text.now) journal; service = service }) ending old new

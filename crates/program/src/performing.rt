@@ -1,11 +1,9 @@
-ghost use Rattle.std.specs.Prelude.{◌≡◌, ◌≢◌, ℕ, List, [], option_map};
+ghost use Rattle.std.specs.Prelude.{◌≡◌, ◌≢◌, []};
 ghost use Rattle.commandline.specs.declared.subcommand.Command.TheVariants.{Session};
 ghost use Rattle.console.specs.Console.{Leaves};
 ghost use Rattle.program.specs.Hosts.{gives_in, left_of};
-ghost use Rattle.program.specs.Journals.{map_fingerprint};
-ghost use Rattle.program.specs.Performing.{Left, Performs, ServesMap, ServesTo, file_of};
-ghost use Rattle.subcommands.specs.Folder.{IsParent};
-ghost use Rattle.subcommands.specs.Mapfiles.{ChecksTo, RunsTo};
+ghost use Rattle.program.specs.Performing.{Performs, PerformsCheck, PerformsRun, PerformsServe, ServesMap};
+ghost use Rattle.program.specs.Requests.{fingerprinted, paths_of, requested_by, written_by};
 ghost use Rattle.subcommands.specs.Session.{PlaysTo};
 
 use crate::ending::Ending;
@@ -70,10 +68,7 @@ impl<R: Runtime, H: Host> Program<'_, R, H> {
         explains: bool,
         console: &mut Console<I, O, E>,
     ) -> Result<(), Failure>
-        ensures checks { (parent : List ℕ) × IsParent file.now parent × (after : Left)
-            × ChecksTo (record { gives = gives_in (H.Files.file self.now.host.now) parent; explains = explains }) result
-            (file_of (⟦<H as Known<R>>⟧.view self.now.host.now) file.now)
-            (record { before = H.Files.file self.now.host.now file.now; after = after })
+        ensures checks { PerformsCheck (⟦<H as Known<R>>⟧.view self.now.host.now) file.now explains result
             (⟦<Console<I, O, E> as Terminal>⟧.streams console.old) (⟦<Console<I, O, E> as Terminal>⟧.streams console.new) }
         ensures input { console.new.input ≡ console.old.input }
         ensures leaves { Leaves result (⟦<Console<I, O, E> as Terminal>⟧.streams console.old) (⟦<Console<I, O, E> as Terminal>⟧.streams console.new) }
@@ -94,16 +89,7 @@ impl<R: Runtime, H: Host> Program<'_, R, H> {
         explains: bool,
         console: &mut Console<I, O, E>,
     ) -> Result<(), Failure>
-        ensures runs { (parent : List ℕ) × IsParent scripted.entry.file.now parent × (after : Left) × (script_after : Left)
-            × RunsTo (record { gives = gives_in (H.Files.file self.now.host.now) parent; explains = explains }) result
-            (record {
-              mapfile = file_of (⟦<H as Known<R>>⟧.view self.now.host.now) scripted.entry.file.now;
-              script = file_of (⟦<H as Known<R>>⟧.view self.now.host.now) scripted.entry.script.now;
-            })
-            (record {
-              mapfile = record { before = H.Files.file self.now.host.now scripted.entry.file.now; after = after };
-              script = record { before = H.Files.file self.now.host.now scripted.entry.script.now; after = script_after };
-            })
+        ensures runs { PerformsRun (⟦<H as Known<R>>⟧.view self.now.host.now) (paths_of scripted.entry) explains result
             (⟦<Console<I, O, E> as Terminal>⟧.streams console.old) (⟦<Console<I, O, E> as Terminal>⟧.streams console.new) }
         ensures input { console.new.input ≡ console.old.input }
         ensures leaves { Leaves result (⟦<Console<I, O, E> as Terminal>⟧.streams console.old) (⟦<Console<I, O, E> as Terminal>⟧.streams console.new) }
@@ -125,19 +111,7 @@ impl<R: Runtime, H: Host> Program<'_, R, H> {
         requested: RequestedService<'_>,
         console: &mut Console<I, O, E>,
     ) -> Ending<H::Port, H::Log>
-        ensures serves { (parent : List ℕ) × IsParent file.now parent × (after : Left)
-            × ServesTo (⟦<H as Known<R>>⟧.view self.now.host.now)
-            (record {
-              explains = requested.entry.explains;
-              journal = option_map (λ path. path.now) requested.entry.journal;
-              service = requested.entry.service;
-            })
-            (record {
-              file = file_of (⟦<H as Known<R>>⟧.view self.now.host.now) file.now;
-              gives = gives_in (H.Files.file self.now.host.now) parent;
-              before = H.Files.file self.now.host.now file.now;
-              after = after;
-            }) result
+        ensures serves { PerformsServe (⟦<H as Known<R>>⟧.view self.now.host.now) file.now (requested_by requested.entry) result
             (⟦<Console<I, O, E> as Terminal>⟧.streams console.old) (⟦<Console<I, O, E> as Terminal>⟧.streams console.new) }
         ensures input { console.new.input ≡ console.old.input }
         ensures leaves { Leaves result.outcome (⟦<Console<I, O, E> as Terminal>⟧.streams console.old) (⟦<Console<I, O, E> as Terminal>⟧.streams console.new) }
@@ -161,19 +135,8 @@ impl<R: Runtime, H: Host> Program<'_, R, H> {
         requested: RequestedService<'_>,
         console: &mut Console<I, O, E>,
     ) -> Ending<H::Port, H::Log>
-        ensures serves { ServesMap (⟦<H as Known<R>>⟧.view self.now.host.now)
-            (record {
-              explains = requested.entry.explains;
-              journal = option_map (λ path. path.now) requested.entry.journal;
-              service = requested.entry.service;
-            })
-            (record { map = read.map; fingerprint = map_fingerprint read.source.items read.files }) result
-            (record {
-              output = ⟦<O as Writes>⟧.state console.old.output;
-              later_output = ⟦<O as Writes>⟧.state console.new.output;
-              errors = ⟦<E as Writes>⟧.state console.old.errors;
-              later_errors = ⟦<E as Writes>⟧.state console.new.errors;
-            }) }
+        ensures serves { ServesMap (⟦<H as Known<R>>⟧.view self.now.host.now) (requested_by requested.entry) (fingerprinted read) result
+            (written_by ⟦<O as Writes>⟧ ⟦<E as Writes>⟧ console.old console.new) }
         ensures input { console.new.input ≡ console.old.input }
         ensures leaves { Leaves result.outcome (⟦<Console<I, O, E> as Terminal>⟧.streams console.old) (⟦<Console<I, O, E> as Terminal>⟧.streams console.new) }
     {

@@ -1,9 +1,10 @@
-ghost use Rattle.std.specs.Prelude.{◌≡◌, ◌||◌, ℕ, List, IfErr, IfOk, OnErr, OnOk, Some, None, is_some, true, false, vec_len};
+ghost use Rattle.std.specs.Prelude.{◌≡◌, ◌||◌, ℕ, List, IfErr, IfOk, OnErr, OnOk, None, is_some, true, false, vec_len};
 ghost use Rattle.console.specs.Console.{LeavesOutput, is_input_failed};
 ghost use Rattle.journal.specs.Name.{IsBounded};
 ghost use Rattle.journalfile.specs.Settled.{GarblesNoRecord, IsSettled};
 ghost use Rattle.program.specs.Journals.{IsOpened, IsUnopened, checkpoint_of, map_fingerprint};
 ghost use Rattle.program.specs.Performing.{IsServed, NamesItsPort, NamesPort, ServesCompacted, ServesJournal, ServesMachine, ServesMap, by_compacted, by_journal};
+ghost use Rattle.program.specs.Requests.{begun_by, fingerprinted, requested_with, written_by};
 ghost use Rattle.subcommands.specs.Session.{opened};
 ghost use Rattle.network.specs.Announcing.{is_resource_failure};
 ghost use Rattle.subcommands.specs.Mapfiles.{TouchesNeither};
@@ -144,7 +145,7 @@ impl<R: Runtime, H: Host> Program<'_, R, H> {
     ) -> Result<Served<H::Port, K>, Failure>
         requires ready { (batches : List (List ℕ)) × K.keeps kept.keeper batches }
         ensures served { IfOk result (λ served. IsServed (⟦<H as Known<R>>⟧.view self.now.host.now) ⟦<K as Keeps>⟧
-            (record { machine = kept.machine; keeper = kept.keeper; service = service }) served
+            (begun_by kept service) served
             (⟦<O as Writes>⟧.state output.old) (⟦<O as Writes>⟧.state output.new)) }
         ensures unwritten { OnErr result (⟦<O as Writes>⟧.state output.new ≡ ⟦<O as Writes>⟧.state output.old) }
         ensures neither { IfErr result TouchesNeither }
@@ -162,7 +163,7 @@ impl<R: Runtime, H: Host> Program<'_, R, H> {
         output: &mut O,
     ) -> Ending<H::Port, H::Log>
         requires ready { (batches : List (List ℕ)) × ⟦<Option<Journal<H::Log>> as Keeps>⟧.keeps kept.keeper batches }
-        ensures serves { ServesMachine (⟦<H as Known<R>>⟧.view self.now.host.now) by_journal (record { machine = kept.machine; keeper = kept.keeper; service = service }) result
+        ensures serves { ServesMachine (⟦<H as Known<R>>⟧.view self.now.host.now) by_journal (begun_by kept service) result
             (⟦<O as Writes>⟧.state output.old) (⟦<O as Writes>⟧.state output.new) }
         ensures leaves { LeavesOutput result.outcome (⟦<O as Writes>⟧.state output.old) (⟦<O as Writes>⟧.state output.new) }
         ensures reads { is_input_failed result.outcome ≡ false }
@@ -181,7 +182,7 @@ impl<R: Runtime, H: Host> Program<'_, R, H> {
         output: &mut O,
     ) -> Ending<H::Port, H::Log>
         requires ready { (batches : List (List ℕ)) × ⟦<CompactedJournal<H::Log> as Keeps>⟧.keeps kept.keeper batches }
-        ensures serves { ServesMachine (⟦<H as Known<R>>⟧.view self.now.host.now) by_compacted (record { machine = kept.machine; keeper = kept.keeper; service = service }) result
+        ensures serves { ServesMachine (⟦<H as Known<R>>⟧.view self.now.host.now) by_compacted (begun_by kept service) result
             (⟦<O as Writes>⟧.state output.old) (⟦<O as Writes>⟧.state output.new) }
         ensures leaves { LeavesOutput result.outcome (⟦<O as Writes>⟧.state output.old) (⟦<O as Writes>⟧.state output.new) }
         ensures reads { is_input_failed result.outcome ≡ false }
@@ -200,7 +201,7 @@ impl<R: Runtime, H: Host> Program<'_, R, H> {
         output: &mut O,
     ) -> Ending<H::Port, H::Log>
         requires ready { (batches : List (List ℕ)) × ⟦<CompactedJournal<H::Log> as Keeps>⟧.keeps kept.keeper batches }
-        ensures serves { ServesCompacted (⟦<H as Known<R>>⟧.view self.now.host.now) (record { machine = kept.machine; keeper = kept.keeper; service = service }) result
+        ensures serves { ServesCompacted (⟦<H as Known<R>>⟧.view self.now.host.now) (begun_by kept service) result
             (⟦<O as Writes>⟧.state output.old) (⟦<O as Writes>⟧.state output.new) }
         ensures leaves { LeavesOutput result.outcome (⟦<O as Writes>⟧.state output.old) (⟦<O as Writes>⟧.state output.new) }
         ensures reads { is_input_failed result.outcome ≡ false }
@@ -222,7 +223,7 @@ impl<R: Runtime, H: Host> Program<'_, R, H> {
         requires settled { (own : List (List ℕ)) × (H.Log.reliable → IsSettled H.Log.content H.Log.may_leave kept.keeper own) }
         requires bounded { IsBounded kept.keeper.name.compaction }
         ensures serves { ServesJournal (⟦<H as Known<R>>⟧.view self.now.host.now) (journaled.entry.explains || journaled.entry.service.logs)
-            (record { machine = kept.machine; keeper = kept.keeper; service = journaled.entry.service }) result
+            (begun_by kept journaled.entry.service) result
             (⟦<O as Writes>⟧.state output.old) (⟦<O as Writes>⟧.state output.new) }
         ensures leaves { LeavesOutput result.outcome (⟦<O as Writes>⟧.state output.old) (⟦<O as Writes>⟧.state output.new) }
         ensures reads { is_input_failed result.outcome ≡ false }
@@ -296,19 +297,8 @@ impl<R: Runtime, H: Host> Program<'_, R, H> {
         journaled: JournaledService<'_>,
         console: &mut Console<I, O, E>,
     ) -> Ending<H::Port, H::Log>
-        ensures serves { ServesMap (⟦<H as Known<R>>⟧.view self.now.host.now)
-            (record {
-              explains = journaled.entry.explains;
-              journal = Some journaled.entry.path.now;
-              service = journaled.entry.service;
-            })
-            (record { map = read.map; fingerprint = map_fingerprint read.source.items read.files }) result
-            (record {
-              output = ⟦<O as Writes>⟧.state console.old.output;
-              later_output = ⟦<O as Writes>⟧.state console.new.output;
-              errors = ⟦<E as Writes>⟧.state console.old.errors;
-              later_errors = ⟦<E as Writes>⟧.state console.new.errors;
-            }) }
+        ensures serves { ServesMap (⟦<H as Known<R>>⟧.view self.now.host.now) (requested_with journaled.entry) (fingerprinted read) result
+            (written_by ⟦<O as Writes>⟧ ⟦<E as Writes>⟧ console.old console.new) }
         ensures input { console.new.input ≡ console.old.input }
         ensures leaves { LeavesOutput result.outcome (⟦<O as Writes>⟧.state console.old.output) (⟦<O as Writes>⟧.state console.new.output) }
         ensures reads { is_input_failed result.outcome ≡ false }

@@ -1,5 +1,6 @@
 pub mod Explained
 pub mod Folder
+pub mod Jobs
 pub mod Lines
 pub mod Mapfiles
 pub mod Parts

@@ -1,7 +1,7 @@
 ghost use Rattle.std.specs.Prelude.{◌≡◌};
 ghost use Rattle.console.specs.Console.{Leaves, LeavesOutput};
-ghost use Rattle.subcommands.specs.Mapfiles.{ChecksTo, LeavesFile, WritesSummary};
-ghost use Rattle.subcommands.specs.Reports.{ReadFile};
+ghost use Rattle.subcommands.specs.Jobs.{JobChecksTo};
+ghost use Rattle.subcommands.specs.Mapfiles.{LeavesFile, WritesSummary};
 
 use crate::folder::Folder;
 use crate::job::Job;
@@ -33,9 +33,7 @@ pub fn check<F: Folder, I: FileReader, J: Source, O: Sink, E: Sink>(
     job: &mut Job<'_, F, I>,
     console: &mut Console<J, O, E>,
 ) -> Result<(), Failure>
-    ensures checks { ChecksTo (record { gives = F.gives job.old.folder.now; explains = job.old.explains }) result
-        (record { name = job.old.mapfile.name.now; unread_for = I.unread_for job.old.mapfile.reader })
-        (record { before = (I.state job.old.mapfile.reader).left; after = (I.state job.new.mapfile.reader).left })
+    ensures checks { JobChecksTo ⟦<F as Folder>⟧ ⟦<I as FileReader>⟧ result job.old job.new
         (⟦<Console<J, O, E> as Terminal>⟧.streams console.old) (⟦<Console<J, O, E> as Terminal>⟧.streams console.new) }
     ensures input { console.new.input ≡ console.old.input }
     ensures file { LeavesFile result

@@ -1,8 +1,8 @@
 ghost use Rattle.std.specs.Prelude.{◌≡◌, ◌⊎◌, IfOk, IfErr, IfSome, None, OnOk, Ok, false, true};
 ghost use Rattle.subcommands.specs.Explained.{IsMapFault, has_missing};
 ghost use Rattle.subcommands.specs.Folder.{ComesTo};
-ghost use Rattle.subcommands.specs.Mapfiles.{HasReadFile, HasReadMap, HasReadMapfile, GivesNoMap, IsUnread, LeavesFile, ReportsWarnings, TouchesNeither};
-ghost use Rattle.subcommands.specs.Reports.{ReadFile};
+ghost use Rattle.subcommands.specs.Jobs.{JobGivesNoMap, read_file};
+ghost use Rattle.subcommands.specs.Mapfiles.{HasReadFile, HasReadMap, HasReadMapfile, IsUnread, LeavesFile, ReportsWarnings, TouchesNeither};
 
 use crate::folder::{Folder, files_of};
 use crate::job::{Job, NamedFile};
@@ -88,7 +88,7 @@ pub fn read_file<I: FileReader, E: Sink>(
     ensures name { file.new.name.now ≡ file.old.name.now }
     ensures same { OnOk result (errors.new ≡ errors.old) }
     ensures unread { IfErr result
-        (λ failure. IsUnread explains failure (record { name = file.old.name.now; unread_for = I.unread_for file.old.reader })
+        (λ failure. IsUnread explains failure (read_file ⟦<I as FileReader>⟧ file.old)
         (⟦<E as Writes>⟧.state errors.old) (⟦<E as Writes>⟧.state errors.new)) }
     ensures neither { IfErr result TouchesNeither }
     ensures leaves { LeavesFile result (I.state file.old.reader) (I.state file.new.reader) }
@@ -118,10 +118,7 @@ pub fn read_explained<F: Folder, I: FileReader, E: Sink>(
         (I.state job.new.mapfile.reader).left read.source.items read.files read.map) }
     ensures job { (job.new.mapfile.name.now ≡ job.old.mapfile.name.now) × (job.new.explains ≡ job.old.explains) }
     ensures same { OnOk result (errors.new ≡ errors.old) }
-    ensures without { IfErr result
-        (λ failure. GivesNoMap (record { gives = F.gives job.old.folder.now; explains = job.old.explains }) failure
-        (record { name = job.old.mapfile.name.now; unread_for = I.unread_for job.old.mapfile.reader })
-        (record { before = (I.state job.old.mapfile.reader).left; after = (I.state job.new.mapfile.reader).left })
+    ensures without { IfErr result (λ failure. JobGivesNoMap ⟦<F as Folder>⟧ ⟦<I as FileReader>⟧ job.old job.new failure
         (⟦<E as Writes>⟧.state errors.old) (⟦<E as Writes>⟧.state errors.new)) }
     ensures neither { IfErr result TouchesNeither }
     ensures leaves { LeavesFile result
@@ -172,10 +169,7 @@ pub fn read_map<F: Folder, I: FileReader, E: Sink>(
         (λ read. ReportsWarnings job.old.explains job.old.mapfile.name.now read.map
         (⟦<E as Writes>⟧.state errors.old) (⟦<E as Writes>⟧.state errors.new)) }
     ensures same { OnOk result (job.old.explains ≡ false → errors.new ≡ errors.old) }
-    ensures without { IfErr result
-        (λ failure. GivesNoMap (record { gives = F.gives job.old.folder.now; explains = job.old.explains }) failure
-        (record { name = job.old.mapfile.name.now; unread_for = I.unread_for job.old.mapfile.reader })
-        (record { before = (I.state job.old.mapfile.reader).left; after = (I.state job.new.mapfile.reader).left })
+    ensures without { IfErr result (λ failure. JobGivesNoMap ⟦<F as Folder>⟧ ⟦<I as FileReader>⟧ job.old job.new failure
         (⟦<E as Writes>⟧.state errors.old) (⟦<E as Writes>⟧.state errors.new)) }
     ensures neither { IfErr result TouchesNeither }
     ensures leaves { LeavesFile result

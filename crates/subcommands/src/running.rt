@@ -1,8 +1,8 @@
 ghost use Rattle.std.specs.Prelude.{◌≡◌, IfErr};
 ghost use Rattle.console.specs.Console.{Leaves};
 ghost use Rattle.console.specs.declared.failure.Failure.TheVariants.{FileFailed, MapfileFault};
-ghost use Rattle.subcommands.specs.Mapfiles.{LeavesFiles, ReportsUnread, RunsTo};
-ghost use Rattle.subcommands.specs.Reports.{ReadFile};
+ghost use Rattle.subcommands.specs.Jobs.{JobReportsUnread, JobRunsTo, readers_of};
+ghost use Rattle.subcommands.specs.Mapfiles.{LeavesFiles};
 
 use crate::folder::Folder;
 use crate::job::{Job, NamedFile};
@@ -24,40 +24,16 @@ pub fn run<F: Folder, I: FileReader, S: FileReader, J: Source, O: Sink, E: Sink>
     script: &mut NamedFile<'_, S>,
     console: &mut Console<J, O, E>,
 ) -> Result<(), Failure>
-    ensures runs { RunsTo (record { gives = F.gives job.old.folder.now; explains = job.old.explains }) result
-        (record {
-          mapfile = record { name = job.old.mapfile.name.now; unread_for = I.unread_for job.old.mapfile.reader };
-          script = record { name = script.old.name.now; unread_for = S.unread_for script.old.reader };
-        })
-        (record {
-          mapfile = record { before = (I.state job.old.mapfile.reader).left; after = (I.state job.new.mapfile.reader).left };
-          script = record { before = (S.state script.old.reader).left; after = (S.state script.new.reader).left };
-        })
+    ensures runs { JobRunsTo ⟦<F as Folder>⟧ ⟦<I as FileReader>⟧ ⟦<S as FileReader>⟧ result
+        (job.old, script.old) (job.new, script.new)
         (⟦<Console<J, O, E> as Terminal>⟧.streams console.old) (⟦<Console<J, O, E> as Terminal>⟧.streams console.new) }
     ensures input { console.new.input ≡ console.old.input }
-    ensures unread { IfErr result
-        (λ failure. failure ≡ FileFailed
-        → ReportsUnread job.old.explains
-        (record {
-          mapfile = record { name = job.old.mapfile.name.now; unread_for = I.unread_for job.old.mapfile.reader };
-          script = record { name = script.old.name.now; unread_for = S.unread_for script.old.reader };
-        })
-        (⟦<E as Writes>⟧.state console.old.errors) (⟦<E as Writes>⟧.state console.new.errors)
-        (record {
-          mapfile_before = I.state job.old.mapfile.reader;
-          mapfile_after = I.state job.new.mapfile.reader;
-          script_before = S.state script.old.reader;
-          script_after = S.state script.new.reader;
-        })
-        (script.new ≡ script.old)) }
+    ensures unread { IfErr result (λ failure. failure ≡ FileFailed
+        → JobReportsUnread ⟦<I as FileReader>⟧ ⟦<S as FileReader>⟧ (job.old, script.old) (job.new, script.new)
+        (⟦<E as Writes>⟧.state console.old.errors) (⟦<E as Writes>⟧.state console.new.errors)) }
     ensures untouched { IfErr result (λ failure. failure ≡ MapfileFault → script.new ≡ script.old) }
-    ensures files { LeavesFiles result
-        (record {
-          mapfile_before = I.state job.old.mapfile.reader;
-          mapfile_after = I.state job.new.mapfile.reader;
-          script_before = S.state script.old.reader;
-          script_after = S.state script.new.reader;
-        }) }
+    ensures files { LeavesFiles result (readers_of ⟦<I as FileReader>⟧ ⟦<S as FileReader>⟧
+        (job.old, script.old) (job.new, script.new)) }
     ensures leaves { Leaves result
         (⟦<Console<J, O, E> as Terminal>⟧.streams console.old) (⟦<Console<J, O, E> as Terminal>⟧.streams console.new) }
 {
