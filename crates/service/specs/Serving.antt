@@ -16,6 +16,7 @@ use Rattle.mapshare.specs.Answerer.{reader_answers}
 use Rattle.mapshare.specs.Reader.{ReaderValue}
 use Rattle.network.specs.Ports.{PortEvent, count_opened}
 use Rattle.network.specs.Times.{IsTimed}
+use Rattle.network.specs.declared.ports.Ports.{Ports}
 use Rattle.turns.specs.Table.{timeouts_of as times_of}
 use Rattle.turns.specs.declared.transport.Transport.{Ghosts as Transport}
 
@@ -52,6 +53,20 @@ pub record ServedValue (P K : Type 0) : Type 0 where
   pub cause : Option LogCause
   pub last : K
   pub accepted : List (List ℕ)
+
+-- a service that is about to begin, which ends well so far
+abbrev pub begun : {P K W Q I : Type 0} → State → K → Ports P W Q I → ServedValue P K
+begun machine keeper ports = record {
+  machine = machine;
+  keeper = keeper;
+  clients = ports.clients.port;
+  administration = ports.administration.port;
+  service = ports.service;
+  outcome = Ok tt;
+  cause = None;
+  last = keeper;
+  accepted = [];
+}
 
 -- a service served this machine, with this keeper, at these ports of clients and of administration, with these options
 abbrev pub IsServiceOf : {P K : Type 0} → State → K → P → P → Service → ServedValue P K → Type 0

@@ -1,6 +1,6 @@
 //! The connections of administrators: one after the other, each until it ends, and each accepted batch kept.
 
-ghost use Rattle.std.specs.Prelude.{◌≡◌, ℕ, List, IfErr, IfSome, MatchOption, OnOk, None};
+ghost use Rattle.std.specs.Prelude.{◌≡◌, ℕ, List, IfErr, IfNone, IfSome, OnOk, None};
 ghost use Rattle.streams.specs.Sides.{sides_view};
 ghost use Rattle.administration.specs.Keeping.{IsCause, IsKeptSince, NoneLost};
 ghost use Rattle.service.specs.Administering.{Administers, cause_of, fault_of};
@@ -65,7 +65,8 @@ fn administer_one<S: Sharing, K: Keeps, R: Runtime, C: Opens>(
     numbered: Numbered<C, R>,
 ) -> (Admin<S, K>, Option<Attempt<C::Closed>>)
     requires ready { (kept : List (List ℕ)) × K.keeps keeper.old kept }
-    ensures served { MatchOption result.1 (C.opens numbered.connection None × (result.0 ≡ admin) × (keeper.new ≡ keeper.old))
+    ensures unopened { IfNone result.1 (C.opens numbered.connection None × (result.0 ≡ admin) × (keeper.new ≡ keeper.old)) }
+    ensures served { IfSome result.1
         (λ attempt. IsServedOne C.opens C.closes
         (Administers S.opening (sides_view ⟦<C::Reader as Source>⟧ ⟦<C::Writer as Sink>⟧) attempt.cause)
         numbered.connection admin result.0 attempt.closed) }

@@ -1,8 +1,9 @@
-ghost use Rattle.std.specs.Prelude.{◌≡◌, [], IsSome, None, Ok, Err};
+ghost use Rattle.std.specs.Prelude.{◌≡◌, IsSome, None, Err};
 ghost use Rattle.batches.specs.Batch.{accepted};
 ghost use Rattle.mapshare.specs.Admin.{all_of};
 ghost use Rattle.sharing.specs.Sharing.{after};
 ghost use Rattle.console.specs.declared.failure.Failure.TheVariants.{NoMemory};
+ghost use Rattle.service.specs.Serving.{begun};
 
 use commandline::Service;
 use console::Failure;
@@ -75,17 +76,7 @@ impl<P, K> Model for Served<P, K> {
 impl<P, K> Served<P, K> {
     // A service that is about to begin, which ends well so far.
     pub(crate) fn begin<W, Q, I>(machine: &Machine, keeper: &K, ports: &Ports<P, W, Q, I>) -> Self
-        ensures { result ≡ record {
-          machine = machine.now;
-          keeper = keeper.now;
-          clients = ports.now.clients.port;
-          administration = ports.now.administration.port;
-          service = ports.now.service;
-          outcome = Ok tt;
-          cause = None;
-          last = keeper.now;
-          accepted = [];
-        } }
+        ensures { result ≡ begun machine.now keeper.now ports.now }
     {
         Served {
             machine: Snapshot::of(machine),

@@ -1,7 +1,7 @@
 use Rattle.std.proofs.Common.{◌≡◌, None, refl, sym, ap, subst, List, ℕ}
 use Rattle.administration.specs.Keeping.{IsKeptSince}
 use Rattle.administration.proofs.KeptBatches.{more_kept, none_lost, none_lost_more, same_kept}
-use Rattle.administration.proofs.Steps.{known-none}
+use Rattle.administration.proofs.Steps.{none-so}
 use Rattle.mapshare.specs.Admin.{all_of}
 use Rattle.service.proofs.administering.administer_all.Goals as goal
 
@@ -16,7 +16,7 @@ pub loop-preserved-in_default : goal.loop-preserved-in_default
 loop-preserved-in_default g c =
     let keeps = g.K.Keeps.keeps in
     let after = c.administer_one-after in
-    let (opened, same, still) = known-none after.result.1 _ _ c.in_default.not-Some after.ensures.served in
+    let (opened, same, still) = none-so after.result.1 _ c.in_default.not-Some after.ensures.unopened in
     let moved = λ (kept : List (List ℕ)) (is : keeps c.loop.keeper kept). subst (λ k. keeps k kept) (sym still) is in
     let step = λ (kept : List (List ℕ)) (is : keeps c.loop.keeper kept). same_kept keeps c.loop.admin after.result.0 kept after.new.keeper (ap all_of same) (moved kept is) in
     record {
