@@ -18,6 +18,8 @@ mod hosts;
 #[cfg(test)]
 mod journals;
 #[cfg(test)]
+mod lives;
+#[cfg(test)]
 mod long_inputs;
 #[cfg(test)]
 mod memory;
@@ -31,6 +33,8 @@ mod shelf;
 mod shelf_log;
 #[cfg(test)]
 mod stops;
+#[cfg(test)]
+mod taped_host;
 #[cfg(test)]
 mod texts;
 #[cfg(test)]
