@@ -17,7 +17,7 @@ COUNTS = {
     "STYLE": {"COLOR": 3, "OUTLINECOLOR": 3, "WIDTH": 1, "SIZE": 1, "SYMBOL": 1},
     "LABEL": {
         "COLOR": 3, "OUTLINECOLOR": 3, "POSITION": 1, "PRIORITY": 1, "BUFFER": 1, "MINDISTANCE": 1, "PARTIALS": 1,
-        "FORCE": 1,
+        "FORCE": 1, "OUTLINEWIDTH": 1,
     },
     "FEATURE": {"TEXT": 1, "ITEMS": 1, "POINTS": 0},
 }
@@ -41,7 +41,7 @@ UNUSED = {
     "CLASS": {"GROUP": 1, "NAME": 1, "TITLE": 1, "STATUS": 1, "TEMPLATE": 1},
     "STYLE": {"ANTIALIAS": 1, "MAXSIZE": 1, "MAXWIDTH": 1, "MINSIZE": 1, "MINWIDTH": 1},
     "LABEL": {
-        "ANTIALIAS": 1, "ENCODING": 1, "FONT": 1, "MAXSIZE": 1, "MINFEATURESIZE": 1, "MINSIZE": 1, "OUTLINEWIDTH": 1,
+        "ANTIALIAS": 1, "ENCODING": 1, "FONT": 1, "MAXSIZE": 1, "MINFEATURESIZE": 1, "MINSIZE": 1,
         "REPEATDISTANCE": 1, "SIZE": 1, "TYPE": 1, "OFFSET": 2, "STYLE": 0,
     },
     "FEATURE": {},
@@ -148,6 +148,9 @@ REFUSED_BLOCKS = {
 # The words that open a block within such a one.
 REFUSED_INNER = {"LABEL", "PATTERN", "STYLE", "VALUES"}
 
+# Keywords that count in a smoothed map alone, with what another one does.
+SMOOTHED = {"LABEL OUTLINEWIDTH": 'an outline is one pixel wide in a map without CONFIG "WMS_SMOOTHING"'}
+
 # Why a word has no effect, where that isn't plain.
 REASONS = {
     "PROJECTION": "coordinates are degrees, longitude before latitude",
@@ -157,7 +160,6 @@ REASONS = {
     "LABEL SIZE": "letters are as large as the font has them, an n-th of that where the map is smoothed by n",
     "LABEL OFFSET": "POSITION alone says where a label stands",
     "LABEL STYLE": "a label has no box and no symbol",
-    "LABEL OUTLINEWIDTH": "an outline is one pixel wide, an n-th of one where the map is smoothed by n",
     "LABEL ENCODING": "texts are UTF-8",
     "LABEL REPEATDISTANCE": "a feature has one label",
     "LABEL MINFEATURESIZE": "small features are labelled, too",
@@ -227,6 +229,8 @@ COUNTED = {
     "STYLE WIDTH": (1, 32), "STYLE SIZE": (1, 256), "LAYER TOLERANCE": (0, 64), "LABEL BUFFER": (0, 64),
     "LABEL PRIORITY": (1, 10), "LABEL MINDISTANCE": (-1, 4096),
 }
+# The widths of a label's outline, which a smoothed map alone judges.
+OUTLINE_WIDTHS = (1, 8)
 NUMBERS = {"MINSCALEDENOM": 10**12, "MAXSCALEDENOM": 10**12}
 CHOICES = {
     "LAYER TYPE": "POINT LINE POLYGON", "SYMBOL TYPE": "PIXMAP", "LABEL POSITION": "UL UC UR CL CC CR LL LC LR AUTO",

@@ -135,7 +135,7 @@ class Painting(unittest.TestCase):
 
 def label_of(**given):
     """A label as MapServer has it, with its defaults."""
-    values = dict(color=colour(10, 20, 30), outlinecolor=NONE, position=110, priority=1, buffer=0, mindistance=-1, partials=0, force=0, font="sans",
+    values = dict(color=colour(10, 20, 30), outlinecolor=NONE, outlinewidth=1, position=110, priority=1, buffer=0, mindistance=-1, partials=0, force=0, font="sans",
                   size=9, wrap="", numstyles=0, angle=0, anglemode=labels.mapscript.MS_NONE, rule=None, text="[name]", bound=None)
     made = SimpleNamespace(**{**values, **given})
     made.getExpressionString, made.getTextString = lambda: made.rule, lambda: made.text
@@ -162,11 +162,14 @@ class Labels(unittest.TestCase):
         self.assertEqual(self.fonts, [("sans", 9)])
 
     def test_all_of_it(self):
-        lines = self.label(outlinecolor=colour(40, 50, 60), position=104, priority=7, buffer=3, mindistance=80, partials=1, force=1, size=-1)
-        self.assertEqual(lines[1:], ["OUTLINECOLOR 40 50 60", "POSITION LL", "PRIORITY 7", "BUFFER 3", "MINDISTANCE 80", "PARTIALS TRUE", "FORCE TRUE"])
+        lines = self.label(outlinecolor=colour(40, 50, 60), outlinewidth=3, position=104, priority=7, buffer=3, mindistance=80, partials=1, force=1, size=-1)
+        self.assertEqual(lines[1:], ["OUTLINECOLOR 40 50 60", "OUTLINEWIDTH 3", "POSITION LL", "PRIORITY 7", "BUFFER 3", "MINDISTANCE 80", "PARTIALS TRUE", "FORCE TRUE"])
         self.assertEqual(self.fonts, [("sans", 10)])
 
     def test_counts_stay_in_their_bounds(self):
+        lines = self.label(outlinecolor=colour(40, 50, 60), outlinewidth=20)
+        self.assertEqual(lines[2], "OUTLINEWIDTH 8")
+        self.assertNotIn("OUTLINEWIDTH 2", self.label(outlinewidth=2))
         lines = self.label(priority=12, buffer=99, mindistance=5000)
         self.assertEqual(lines[2:], ["PRIORITY 10", "BUFFER 64", "MINDISTANCE 4096"])
 

@@ -71,6 +71,13 @@ class Blocks(unittest.TestCase):
         self.assertEqual([line.split(" has ")[0] for line in shown(source)], ["1: SIZE", '2: METADATA "wms_abstract"'])
         self.assertEqual(shown(source, True), [])
 
+    def test_the_width_of_an_outline_is_judged_in_a_smoothed_map_alone(self):
+        label = "CLASS LABEL OUTLINEWIDTH 12\nOUTLINEWIDTH {} END END END END"
+        self.assertEqual([line.split(" has ")[0] for line in shown(f"MAP {LAYER} {label.format(9)}")], ["2: OUTLINEWIDTH"])
+        smoothed = f"MAP CONFIG WMS_SMOOTHING 3 {LAYER} {label}"
+        self.assertEqual(shown(smoothed.format(8)), [])
+        self.assertEqual(shown(smoothed.format(9)), ["2: OUTLINEWIDTH 9 is no count from 1 to 8: write one"])
+
     def test_a_class_has_one_label(self):
         lines = shown(f"MAP {LAYER} CLASS LABEL END\nLABEL END\nLABEL END END END END")
         self.assertEqual(lines, ["2: CLASS has one LABEL too many: write a further LAYER of the same features"])

@@ -146,7 +146,7 @@ def random_label():
     position = random.choice("UL UC UR CL CC CR LL LC LR AUTO AUTO AUTO".split())
     return Label(
         random.randint(1, 10), random.choice([None, colour(), colour()]), random.choice([None, colour()]), random.choice([0, 0, 1, 5]),
-        random.choice([0, 0, 7, 20]), position, random.random() < 0.3, random.random() < 0.15,
+        random.choice([0, 0, 7, 20]), position, random.random() < 0.3, random.random() < 0.15, random.choice([1, 1, 2, 3, 8]),
     )
 
 

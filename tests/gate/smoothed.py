@@ -7,8 +7,8 @@ For each random map and each factor the program draws a picture of a map with CO
 as wide and high of a copy without it: in the copy SIZE, BUFFER and MINDISTANCE are n times as many, and the bounds on
 scales an n-th. Each pixel of the first has to be the mean of n by n pixels of the second, by DRAWING.md. The maps have
 polygons that share edges, points, pixmaps, classes by scale and labels; the pictures lie across borders of blocks, in
-EPSG:3857, in each format, with each TRANSPARENT and with BGCOLOR. They have no lines, which are round in a smoothed picture
-alone: `random_maps.py` and `round_lines.py` try those. It ends with 1 where a picture differs.
+EPSG:3857, in each format, with each TRANSPARENT and with BGCOLOR. They have no lines and no outlines of labels, which
+are round in a smoothed picture alone: `random_maps.py` and `round_lines.py` try those. It ends with 1 where a picture differs.
 
 Gate: PROGRAM 4; 6 s
 """
@@ -80,7 +80,7 @@ class Style:
 class Label:
     def __init__(self, rng):
         self.words = [f"COLOR {colour(rng)}", f"POSITION {rng.choice('UL UC UR CL CC CR LL LC LR AUTO'.split())}", f"PRIORITY {rng.randint(1, 10)}"]
-        self.words += rng.choice([[], [f"OUTLINECOLOR {colour(rng)}"]]) + rng.choice([[], ["PARTIALS TRUE"]]) + rng.choice([[], [], ["FORCE TRUE"]])
+        self.words += rng.choice([[], ["PARTIALS TRUE"]]) + rng.choice([[], [], ["FORCE TRUE"]])
         self.sizes = {"BUFFER": rng.randint(0, 5), "MINDISTANCE": rng.choice([0, 7, 30])}
 
 

@@ -59,12 +59,15 @@ class Label:
     position: str = "AUTO"
     is_partial: bool = False
     is_forced: bool = False
+    width: int = 1
+    times: int = 1
 
     def words(self):
         """The block of a mapfile."""
         colour = "%d %d %d" % self.colour if self.colour else "-1 -1 -1"
         outline = "OUTLINECOLOR %d %d %d\n" % self.outline if self.outline else ""
         more = ("PARTIALS TRUE\n" if self.is_partial else "") + ("FORCE TRUE\n" if self.is_forced else "")
+        more += f"OUTLINEWIDTH {self.width}\n" if self.width > 1 else ""
         return (
             f"LABEL\nCOLOR {colour}\n{outline}POSITION {self.position}\nPRIORITY {self.priority}\n"
             f"BUFFER {self.buffer}\nMINDISTANCE {self.distance}\n{more}END\n"
@@ -72,7 +75,20 @@ class Label:
 
     def finer(self, times):
         """The label on a picture so many times as fine."""
-        return dataclasses.replace(self, buffer=times * self.buffer, distance=times * self.distance)
+        return dataclasses.replace(self, buffer=times * self.buffer, distance=times * self.distance, times=times)
+
+    def reach(self):
+        """How many pixels the outline reaches."""
+        if not self.outline:
+            return 0
+        return self.times * self.width if self.times > 1 else 1
+
+    def steps(self):
+        """The steps from ink to the pixels of its outline: on a fine picture to all within the reach, else to the eight neighbours."""
+        if self.times == 1:
+            return ROUND
+        reach = self.reach()
+        return [(i, j) for i in range(-reach, reach + 1) for j in range(-reach, reach + 1) if i * i + j * j <= reach * reach]
 
 
 def place(font, size, candidates):
@@ -85,7 +101,7 @@ def place(font, size, candidates):
         if not label.is_forced and any(squared_distance(anchor, other) < label.distance**2 for other in others):
             continue
         width = font.width(text)
-        more = label.buffer + (1 if label.outline else 0)
+        more = label.buffer + label.reach()
         for position in AUTO if label.position == "AUTO" else [label.position]:
             left, top = corner(position, anchor, width, font.height)
             box = (left - more, top - more, left + width + more, top + font.height + more)
@@ -132,7 +148,7 @@ def paint(picture, font, placed):
     for text, (left, top), label in placed:
         ink = font.ink(text, left, top)
         if label.outline:
-            for i, j in {(x + i, y + j) for x, y in ink for i, j in ROUND}:
+            for i, j in {(x + i, y + j) for x, y in ink for i, j in label.steps()}:
                 picture.span(j, i, i + 1, label.outline)
         for i, j in ink if label.colour else []:
             picture.span(j, i, i + 1, label.colour)

@@ -4,6 +4,7 @@ use Rattle.geom.specs.Device.{DevicePoint, PixelValue, pixel_centre}
 use Rattle.geom.specs.EvenOdd.{is_inside}
 use Rattle.bdffont.specs.Ink.{has_ink}
 use Rattle.labelink.specs.Ink.{has_outline}
+use Rattle.labelink.specs.declared.reach.Reach.{Reach}
 use Rattle.mapdefs.specs.declared.colour.Rgb.{Rgb}
 use Rattle.mapdefs.specs.declared.font.FontFields.{FontFields}
 use Rattle.mapdefs.specs.declared.symbol.Symbol.{Symbol}
@@ -30,7 +31,7 @@ pub data PaintedShape : Type 0 where
   RoundStroke : List SegmentValue → Rgb → PaintedShape
   Mark : SquareValue → Rgb → PaintedShape
   Stamped : StampValue → PaintedShape
-  Outlined : Written → Rgb → PaintedShape
+  Outlined : Written → Reach → Rgb → PaintedShape
   Inked : Written → Rgb → PaintedShape
 
 -- whether a shape covers the pixel in a column and a row: rings cover a pixel whose centre lies inside of them
@@ -40,7 +41,7 @@ covers (Stroke stroke colour) i j = line.covers_pixel stroke (pos i) (pos j)
 covers (RoundStroke segments colour) i j = round.covers_pixel segments (pos i) (pos j)
 covers (Mark square colour) i j = covers_square square (pos i) (pos j)
 covers (Stamped pixmap) i j = stamp.covers_pixel pixmap (pos i) (pos j)
-covers (Outlined w colour) i j = has_outline w.font w.characters w.at (pos i) (pos j)
+covers (Outlined w reach colour) i j = has_outline reach w.font w.characters w.at (pos i) (pos j)
 covers (Inked w colour) i j = has_ink w.font w.characters w.at (pos i) (pos j)
 
 -- the colour that a shape gives to a pixel: a pixmap has one for each pixel that it covers, the others have one for all
@@ -50,7 +51,7 @@ colour_in (Stroke stroke colour) i j = Some colour
 colour_in (RoundStroke segments colour) i j = Some colour
 colour_in (Mark square colour) i j = Some colour
 colour_in (Stamped pixmap) i j = pixel_at pixmap (pos i) (pos j)
-colour_in (Outlined w colour) i j = Some colour
+colour_in (Outlined w reach colour) i j = Some colour
 colour_in (Inked w colour) i j = Some colour
 
 -- the line of a width along parts, in a colour, where a map's pixel is so many of the picture's: it is as many times as wide, and round

@@ -13,6 +13,7 @@ use Rattle.labelcache.specs.Placement.{IsPlacement, setting}
 use Rattle.labelcache.specs.declared.cache.Placed.{Placed}
 use Rattle.labelink.proofs.Inked.{ink-is-of-glyphs, outline-of-glyphs}
 use Rattle.labelink.specs.Ink.{GlyphValue, covers_glyph, glyphs_from, outlines_glyph}
+use Rattle.labelink.specs.declared.reach.Reach.{Reach}
 use Rattle.mapdefs.specs.declared.colour.Rgb.{Rgb}
 use Rattle.mapdefs.specs.declared.font.FontFields.{FontFields}
 use Rattle.mapdefs.specs.declared.picture.PictureFields.{PictureFields}
@@ -31,9 +32,9 @@ module _ (w : Written) (glyphs : List GlyphValue) (colour : Rgb) (a b : PictureF
       (λ i j. refl) filled
 
   -- and those of their outlines
-  pub outlined : IsFilled (λ i j. list_any (λ g. outlines_glyph g (pos i) (pos j)) glyphs) (λ i j. Some colour) a b → IsPainted a b (Outlined w colour ∷ [])
-  outlined filled = painted-shape (Outlined w colour) (λ i j. list_any (λ g. outlines_glyph g (pos i) (pos j)) glyphs) (λ i j. Some colour) a b
-      (λ i j. outline-of-glyphs w.font w.characters w.at (pos i) (pos j) ∙ ap (λ (gs : List GlyphValue). list_any (λ g. outlines_glyph g (pos i) (pos j)) gs) (sym are))
+  pub outlined : (reach : Reach) → IsFilled (λ i j. list_any (λ g. outlines_glyph reach g (pos i) (pos j)) glyphs) (λ i j. Some colour) a b → IsPainted a b (Outlined w reach colour ∷ [])
+  outlined reach filled = painted-shape (Outlined w reach colour) (λ i j. list_any (λ g. outlines_glyph reach g (pos i) (pos j)) glyphs) (λ i j. Some colour) a b
+      (λ i j. outline-of-glyphs reach w.font w.characters w.at (pos i) (pos j) ∙ ap (λ (gs : List GlyphValue). list_any (λ g. outlines_glyph reach g (pos i) (pos j)) gs) (sym are))
       (λ i j. refl) filled
 
 -- without a font there are no labels

@@ -35,7 +35,8 @@ use Rattle.canvas.specs.Shapes.{PaintedShape, Written, fills, line_by, marks, st
 use Rattle.canvas.specs.Shapes as shape
 use Rattle.inking.specs.Styles.{line_shapes, point_shapes}
 use Rattle.compose.specs.Blocks.{BlocksAreParts, BlocksPaintParts, BlocksPaintTheSame, IsBlockOf, PaintedBlocksAreBlocks, corner_of, label_from, shape_from, whole_colour}
-use Rattle.compose.specs.Labels.{candidate_list, candidate_shapes, ink_list, inks, label_shapes, outlines}
+use Rattle.compose.specs.Labels.{candidate_list, candidate_shapes, ink_list, inks, label_shapes, outlines, reach_of}
+use Rattle.labelink.specs.declared.reach.Reach.{Reach}
 use Rattle.compose.specs.Paint.{chosen_shapes, class_shapes, feature_shapes, layer_shapes, paint_list, parts_of, polygon_shapes, style_shapes}
 use Rattle.canvas.specs.Painted.{IsPainted, colour_at}
 use Rattle.canvas.proofs.Painting.{painted-area, painted-pixels}
@@ -177,9 +178,9 @@ pub blocks-paint-the-same : BlocksPaintTheSame
 blocks-paint-the-same view across down scale m chosen = list-moved view across down scale m chosen
 
 -- the ink of a text at a pixel
-outlines-moved : (c : PixelValue) (w : Written) (colour : Option Rgb) → outlines (record w { at = pixel_from c w.at }) colour ≡ map (shape_from c) (outlines w colour)
-outlines-moved c w None = refl
-outlines-moved c w (Some colour) = refl
+outlines-moved : (c : PixelValue) (w : Written) (reach : Reach) (colour : Option Rgb) → outlines (record w { at = pixel_from c w.at }) reach colour ≡ map (shape_from c) (outlines w reach colour)
+outlines-moved c w reach None = refl
+outlines-moved c w reach (Some colour) = refl
 
 inks-moved : (c : PixelValue) (w : Written) (colour : Option Rgb) → inks (record w { at = pixel_from c w.at }) colour ≡ map (shape_from c) (inks w colour)
 inks-moved c w None = refl
@@ -189,9 +190,9 @@ candidate-moved : (c : PixelValue) (font : FontFields) (candidate : CandidateVal
     candidate_shapes font candidate (pixel_from c at) ≡ map (shape_from c) (candidate_shapes font candidate at)
 candidate-moved c font candidate at =
     let w : Written = record { font = font; characters = chars candidate.text; at = at } in
-    append-moved (shape_from c) (outlines (record w { at = pixel_from c at }) candidate.label.outline) (inks (record w { at = pixel_from c at }) candidate.label.colour)
-    (outlines w candidate.label.outline) (inks w candidate.label.colour)
-    (outlines-moved c w candidate.label.outline) (inks-moved c w candidate.label.colour)
+    append-moved (shape_from c) (outlines (record w { at = pixel_from c at }) (reach_of candidate) candidate.label.outline) (inks (record w { at = pixel_from c at }) candidate.label.colour)
+    (outlines w (reach_of candidate) candidate.label.outline) (inks w candidate.label.colour)
+    (outlines-moved c w (reach_of candidate) candidate.label.outline) (inks-moved c w candidate.label.colour)
 
 label-moved : (c : PixelValue) (font : FontFields) (candidates : List CandidateValue) (label : Placed) →
     label_shapes font candidates (label_from c label) ≡ map (shape_from c) (label_shapes font candidates label)

@@ -24,7 +24,7 @@ module _ (left top : ℕ) where
   covers-moved (shape.RoundStroke segments colour) i j = round_lines-move corner segments (pos i) (pos j)
   covers-moved (shape.Mark square colour) i j = squares-move corner square (pos i) (pos j)
   covers-moved (shape.Stamped pixmap) i j = stamps-move corner pixmap (pos i) (pos j)
-  covers-moved (shape.Outlined w colour) i j = outlines-move corner w.font w.characters w.at (pos i) (pos j)
+  covers-moved (shape.Outlined w reach colour) i j = outlines-move corner reach w.font w.characters w.at (pos i) (pos j)
   covers-moved (shape.Inked w colour) i j = ink-moves corner w.font w.characters w.at (pos i) (pos j)
 
   colours-moved : (s : PaintedShape) (i j : ℕ) → colour_in (shape_from corner s) i j ≡ colour_in s (left + i) (top + j)
@@ -33,7 +33,7 @@ module _ (left top : ℕ) where
   colours-moved (shape.RoundStroke segments colour) i j = refl
   colours-moved (shape.Mark square colour) i j = refl
   colours-moved (shape.Stamped pixmap) i j = stamp-colours-move corner pixmap (pos i) (pos j)
-  colours-moved (shape.Outlined w colour) i j = refl
+  colours-moved (shape.Outlined w reach colour) i j = refl
   colours-moved (shape.Inked w colour) i j = refl
 
   one-moved : (background : Option Rgb) (s : PaintedShape) (i j : ℕ) →

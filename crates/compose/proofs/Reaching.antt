@@ -1,19 +1,18 @@
 -- How far the ink of a text reaches from its corner.
-use Rattle.std.proofs.Common.{◌≡◌, ◌∙◌, ℕ, ◌+◌, ◌*◌, ◌/◌, ◌%◌, ◌<◌, ◌⊎◌, Bool, true, false, cond, List, [], ◌∷◌, length, Option, None, Some, refl, sym, ap, arith, subst, ⊎_elim, inl, inr, zero, suc}
+use Rattle.std.proofs.Common.{◌≡◌, ◌∙◌, ℕ, ◌+◌, ◌*◌, ◌/◌, ◌%◌, ◌<◌, ◌≤◌, ◌⊎◌, Bool, true, false, cond, List, [], ◌∷◌, length, Option, None, Some, refl, sym, ap, arith, subst, ⊎_elim, inl, inr, zero, suc}
 use Rattle.std.proofs.Math.Logic.{∥∥₁_elim}
 use Rattle.std.proofs.lemmas.Int.{ints}
 use Rattle.std.proofs.lemmas.List.Elements.{All-head, All-tail}
 use Rattle.std.proofs.lemmas.Nat.{div_below}
 use Rattle.std.specs.List.{All, find}
 use Rattle.std.specs.Option.{option_map_or, option_or}
-use Rattle.std.specs.Prelude.{int_lt, slice_get}
+use Rattle.std.specs.Prelude.{unsigned_abs}
 use Rattle.std.specs.Str.{chars}
 use lib.IntN.{ℤ, pos, neg_ℤ, ◌+ℤ◌}
 use mathlib.Core.Bool.{Bool-set}
 use lib.Signed.{◌<ℤ◌, ◌≤ℤ◌}
 use Rattle.geom.specs.Device.{PixelValue}
 use Rattle.labelcache.specs.Candidate.{CandidateValue}
-use Rattle.labelcache.specs.declared.cache.Placed.{Placed}
 use Rattle.mapdefs.specs.FontLimits.{IsFontWithinLimits, IsGlyphWithinLimits}
 use Rattle.mapdefs.specs.declared.colour.Rgb.{Rgb}
 use Rattle.mapdefs.specs.declared.font.BitmapBox.{BitmapBox}
@@ -23,13 +22,16 @@ use Rattle.mapdefs.specs.declared.picture.PictureFields.{PictureFields}
 use Rattle.bdffont.specs.File.{has_encoding}
 use Rattle.bdffont.specs.Ink.{advance_of, bottom_of, character_covers, covers, first_row, glyph_of, has_ink, has_ink_from, left_of}
 use Rattle.labelink.specs.Ink.{GlyphValue, has_outline}
+use Rattle.labelink.specs.declared.reach.Reach.{Reach}
+use Rattle.labelink.specs.declared.reach.Reach.TheVariants.{Neighbours, Disc}
 use Rattle.labelink.proofs.Boxed.{above, below, left-of}
+use Rattle.labelink.proofs.Discs.{across-within, disc-none, down-within}
 use Rattle.canvas.specs.Painted.{IsPainted, colour_at, colour_of}
 use Rattle.canvas.specs.Shapes.{PaintedShape, Written, colour_in}
 use Rattle.canvas.specs.Shapes as shape
 use Rattle.canvas.proofs.Painting.{colour_at-append, colour_at-none, colour_at-one}
-use Rattle.compose.specs.Labels.{candidate_shapes, inks, label_shapes, outlines}
-use Rattle.compose.specs.Reach.{ShowsNothing, line_of}
+use Rattle.compose.specs.Labels.{candidate_shapes, inks, outlines, reach_of}
+use Rattle.compose.specs.Reach.{ShowsNothing, line_of, pixels_of}
 
 -- what holds of all elements holds of the one that is found
 found-of : {X : Type 0} (P : X → Type 0) (f : X → Bool) (xs : List X) (x : X) → All P xs → find f xs ≡ Some x → P x
@@ -74,94 +76,92 @@ module _ (font : FontFields) (at : PixelValue) (all : All IsGlyphWithinLimits fo
   ink-beyond i j far pen [] = refl
   ink-beyond i j far pen (c ∷ cs) = rw (character-beyond i j far pen c, ink-beyond i j far (pen + advance_of font.glyphs c) cs) refl
 
-  nearer : (i j di dj : ℤ) → neg_ℤ (pos 1) ≤ℤ di → di ≤ℤ pos 1 → neg_ℤ (pos 1) ≤ℤ dj → dj ≤ℤ pos 1 → IsBeyond 1 font.bounds at i j → IsBeyond 0 font.bounds at (i +ℤ di) (j +ℤ dj)
-  nearer i j di dj a b c d far =
+  nearer : (more : ℕ) (i j di dj : ℤ) → unsigned_abs di ≤ more → unsigned_abs dj ≤ more → IsBeyond more font.bounds at i j → IsBeyond 0 font.bounds at (i +ℤ di) (j +ℤ dj)
+  nearer more i j di dj a b far =
       ⊎_elim
-      (λ (h : (i +ℤ pos 65) <ℤ at.i). inl (omega (arith, ints, h, a, b)))
+      (λ (h : (i +ℤ pos (64 + more)) <ℤ at.i). inl (omega (arith, ints, h, a)))
       (⊎_elim
-      (λ (h : (j +ℤ pos 129) <ℤ line_of font.bounds at). inr (inl (omega (arith, ints, h, c, d))))
-      (λ (h : (line_of font.bounds at +ℤ pos 65) ≤ℤ j). inr (inr (omega (arith, ints, h, c, d)))))
+      (λ (h : (j +ℤ pos (128 + more)) <ℤ line_of font.bounds at). inr (inl (omega (arith, ints, h, b))))
+      (λ (h : (line_of font.bounds at +ℤ pos (64 + more)) ≤ℤ j). inr (inr (omega (arith, ints, h, b)))))
       far
 
-  outline-beyond : (characters : List ℕ) (i j : ℤ) → IsBeyond 1 font.bounds at i j → has_outline font characters at i j ≡ false
-  outline-beyond characters i j far =
+  outline-beyond : (reach : Reach) (characters : List ℕ) (i j : ℤ) → IsBeyond (pixels_of reach) font.bounds at i j → has_outline reach font characters at i j ≡ false
+  outline-beyond (Disc r) characters i j far = disc-none (λ step. has_ink font characters at (i +ℤ step.i) (j +ℤ step.j)) r
+      (λ across down within.
+      ink-beyond (i +ℤ across) (j +ℤ down) (nearer r i j across down (across-within r across down within) (down-within r across down within) far) 0 characters)
+  outline-beyond Neighbours characters i j far =
       let back = neg_ℤ (pos 1) in
-      let none = λ (di dj : ℤ) (a : back ≤ℤ di) (b : di ≤ℤ pos 1) (c : back ≤ℤ dj) (d : dj ≤ℤ pos 1). ink-beyond (i +ℤ di) (j +ℤ dj) (nearer i j di dj a b c d far) 0 characters in
-      let low : back ≤ℤ back = omega (arith, ints) in
-      let low0 : back ≤ℤ pos 0 = omega (arith, ints) in
-      let low1 : back ≤ℤ pos 1 = omega (arith, ints) in
-      let high0 : pos 0 ≤ℤ pos 1 = omega (arith, ints) in
-      let high1 : pos 1 ≤ℤ pos 1 = omega (arith, ints) in
+      let none = λ (di dj : ℤ) (a : unsigned_abs di ≤ 1) (b : unsigned_abs dj ≤ 1). ink-beyond (i +ℤ di) (j +ℤ dj) (nearer 1 i j di dj a b far) 0 characters in
+      let low : unsigned_abs back ≤ 1 = omega (arith, ints) in
+      let middle : unsigned_abs (pos 0) ≤ 1 = omega (arith, ints) in
+      let high : unsigned_abs (pos 1) ≤ 1 = omega (arith, ints) in
       rw (
-        none back back low low1 low low1,
-        none (pos 0) back low0 high0 low low1,
-        none (pos 1) back low1 high1 low low1,
-        none back (pos 0) low low1 low0 high0,
-        none (pos 1) (pos 0) low1 high1 low0 high0,
-        none back (pos 1) low low1 low1 high1,
-        none (pos 0) (pos 1) low0 high0 low1 high1,
-        none (pos 1) (pos 1) low1 high1 low1 high1,
+        none back back low low,
+        none (pos 0) back middle low,
+        none (pos 1) back high low,
+        none back (pos 0) low middle,
+        none (pos 1) (pos 0) high middle,
+        none back (pos 1) low high,
+        none (pos 0) (pos 1) middle high,
+        none (pos 1) (pos 1) high high,
       ) refl
 
 -- a text in a font within the limits shows nothing on a picture that lies left of its corner by more than that, or above or below its line
-pub shows-nothing : (font : FontFields) (at : PixelValue) (width height : ℕ) → IsFontWithinLimits font →
-    ((pos width +ℤ pos 65) ≤ℤ at.i) ⊎ (((pos height +ℤ pos 129) ≤ℤ line_of font.bounds at) ⊎ ((line_of font.bounds at +ℤ pos 65) ≤ℤ pos 0)) → ShowsNothing font at width height
-shows-nothing font at width height limits off characters i j left up =
-    let far : IsBeyond 1 font.bounds at (pos i) (pos j) =
+pub shows-nothing : (font : FontFields) (reach : Reach) (at : PixelValue) (width height : ℕ) → IsFontWithinLimits font →
+    ((pos width +ℤ pos (64 + pixels_of reach)) ≤ℤ at.i) ⊎ (((pos height +ℤ pos (128 + pixels_of reach)) ≤ℤ line_of font.bounds at) ⊎ ((line_of font.bounds at +ℤ pos (64 + pixels_of reach)) ≤ℤ pos 0)) →
+    ShowsNothing font reach at width height
+shows-nothing font reach at width height limits off characters i j left up =
+    let far : IsBeyond (pixels_of reach) font.bounds at (pos i) (pos j) =
     ⊎_elim
-    (λ (h : (pos width +ℤ pos 65) ≤ℤ at.i). inl (omega (arith, ints, h, left)))
+    (λ (h : (pos width +ℤ pos (64 + pixels_of reach)) ≤ℤ at.i). inl (omega (arith, ints, h, left)))
     (⊎_elim
-    (λ (h : (pos height +ℤ pos 129) ≤ℤ line_of font.bounds at). inr (inl (omega (arith, ints, h, up))))
-    (λ (h : (line_of font.bounds at +ℤ pos 65) ≤ℤ pos 0). inr (inr (omega (arith, ints, h)))))
+    (λ (h : (pos height +ℤ pos (128 + pixels_of reach)) ≤ℤ line_of font.bounds at). inr (inl (omega (arith, ints, h, up))))
+    (λ (h : (line_of font.bounds at +ℤ pos (64 + pixels_of reach)) ≤ℤ pos 0). inr (inr (omega (arith, ints, h)))))
     off in
     let still : IsBeyond 0 font.bounds at (pos i) (pos j) =
     ⊎_elim
-    (λ (h : (pos i +ℤ pos 65) <ℤ at.i). inl (omega (arith, ints, h)))
+    (λ (h : (pos i +ℤ pos (64 + pixels_of reach)) <ℤ at.i). inl (omega (arith, ints, h)))
     (⊎_elim
-    (λ (h : (pos j +ℤ pos 129) <ℤ line_of font.bounds at). inr (inl (omega (arith, ints, h))))
-    (λ (h : (line_of font.bounds at +ℤ pos 65) ≤ℤ pos j). inr (inr (omega (arith, ints, h)))))
+    (λ (h : (pos j +ℤ pos (128 + pixels_of reach)) <ℤ line_of font.bounds at). inr (inl (omega (arith, ints, h))))
+    (λ (h : (line_of font.bounds at +ℤ pos (64 + pixels_of reach)) ≤ℤ pos j). inr (inr (omega (arith, ints, h)))))
     far in (
       ∥∥₁_elim limits.each (Bool-set _ _) (λ (all : All IsGlyphWithinLimits font.glyphs). ink-beyond font at all (pos i) (pos j) still 0 characters),
-      ∥∥₁_elim limits.each (Bool-set _ _) (λ (all : All IsGlyphWithinLimits font.glyphs). outline-beyond font at all characters (pos i) (pos j) far),
+      ∥∥₁_elim limits.each (Bool-set _ _) (λ (all : All IsGlyphWithinLimits font.glyphs). outline-beyond font at all reach characters (pos i) (pos j) far),
     )
 
 -- the same of a font that is read, by each of the three tests
-pub right-of-all : (font read : FontFields) (at : PixelValue) (width height : ℕ) (i : ℤ) → read ≡ font → IsFontWithinLimits read → i ≡ at.i → (pos width +ℤ pos 65) ≤ℤ i → ShowsNothing font at width height
-right-of-all font read at width height i same limits is h = shows-nothing font at width height (rw same at limits) (inl (rw is at h))
+pub right-of-all : (font read : FontFields) (reach : Reach) (at : PixelValue) (width height : ℕ) (i : ℤ) → read ≡ font → IsFontWithinLimits read → i ≡ at.i → (pos width +ℤ pos (64 + pixels_of reach)) ≤ℤ i →
+    ShowsNothing font reach at width height
+right-of-all font read reach at width height i same limits is h = shows-nothing font reach at width height (rw same at limits) (inl (rw is at h))
 
-pub below-all : (font read : FontFields) (at : PixelValue) (width height : ℕ) (line : ℤ) → read ≡ font → IsFontWithinLimits read → line ≡ line_of read.bounds at → (pos height +ℤ pos 129) ≤ℤ line → ShowsNothing font at width height
-below-all font read at width height line same limits is h = shows-nothing font at width height (rw same at limits) (inr (inl (rw (is, same) at h)))
+pub below-all : (font read : FontFields) (reach : Reach) (at : PixelValue) (width height : ℕ) (line : ℤ) → read ≡ font → IsFontWithinLimits read → line ≡ line_of read.bounds at →
+    (pos height +ℤ pos (128 + pixels_of reach)) ≤ℤ line → ShowsNothing font reach at width height
+below-all font read reach at width height line same limits is h = shows-nothing font reach at width height (rw same at limits) (inr (inl (rw (is, same) at h)))
 
-pub above-all : (font read : FontFields) (at : PixelValue) (width height : ℕ) (line : ℤ) → read ≡ font → IsFontWithinLimits read → line ≡ line_of read.bounds at → int_lt (neg_ℤ (pos 65)) line ≡ false → ShowsNothing font at width height
-above-all font read at width height line same limits is h =
-    let high : (line +ℤ pos 65) ≤ℤ pos 0 = omega (arith, ints, sym h) in
-    shows-nothing font at width height (rw same at limits) (inr (inr (rw (is, same) at high)))
+pub above-all : (font read : FontFields) (reach : Reach) (at : PixelValue) (width height : ℕ) (line : ℤ) → read ≡ font → IsFontWithinLimits read → line ≡ line_of read.bounds at →
+    line ≤ℤ neg_ℤ (pos (64 + pixels_of reach)) → ShowsNothing font reach at width height
+above-all font read reach at width height line same limits is h =
+    let high : (line +ℤ pos (64 + pixels_of reach)) ≤ℤ pos 0 = omega (arith, ints, h) in
+    shows-nothing font reach at width height (rw same at limits) (inr (inr (rw (is, same) at high)))
 
 -- what isn't seen leaves a pixel as it is
-outline-unseen : (background : Option Rgb) (w : Written) (colour : Option Rgb) (i j : ℕ) → has_outline w.font w.characters w.at (pos i) (pos j) ≡ false → colour_at background (outlines w colour) i j ≡ background
-outline-unseen background w None i j none = colour_at-none background i j
-outline-unseen background w (Some colour) i j none = colour_at-one background (shape.Outlined w colour) i j ∙ rw none refl
+outline-unseen : (background : Option Rgb) (w : Written) (reach : Reach) (colour : Option Rgb) (i j : ℕ) → has_outline reach w.font w.characters w.at (pos i) (pos j) ≡ false →
+    colour_at background (outlines w reach colour) i j ≡ background
+outline-unseen background w reach None i j none = colour_at-none background i j
+outline-unseen background w reach (Some colour) i j none = colour_at-one background (shape.Outlined w reach colour) i j ∙ rw none refl
 
 ink-unseen : (background : Option Rgb) (w : Written) (colour : Option Rgb) (i j : ℕ) → has_ink w.font w.characters w.at (pos i) (pos j) ≡ false → colour_at background (inks w colour) i j ≡ background
 ink-unseen background w None i j none = colour_at-none background i j
 ink-unseen background w (Some colour) i j none = colour_at-one background (shape.Inked w colour) i j ∙ rw none refl
 
-candidate-unseen : (background : Option Rgb) (font : FontFields) (c : CandidateValue) (at : PixelValue) (width height i j : ℕ) → ShowsNothing font at width height → i < width → j < height →
+candidate-unseen : (background : Option Rgb) (font : FontFields) (c : CandidateValue) (at : PixelValue) (width height i j : ℕ) → ShowsNothing font (reach_of c) at width height → i < width → j < height →
     colour_at background (candidate_shapes font c at) i j ≡ background
 candidate-unseen background font c at width height i j none left up =
     let w : Written = record { font = font; characters = chars c.text; at = at } in
     let both = none (chars c.text) i j left up in
-    colour_at-append background (outlines w c.label.outline) (inks w c.label.colour) i j
-    ∙ ap (λ (z : Option Rgb). colour_at z (inks w c.label.colour) i j) (outline-unseen background w c.label.outline i j both.1)
+    colour_at-append background (outlines w (reach_of c) c.label.outline) (inks w c.label.colour) i j
+    ∙ ap (λ (z : Option Rgb). colour_at z (inks w c.label.colour) i j) (outline-unseen background w (reach_of c) c.label.outline i j both.1)
     ∙ ink-unseen background w c.label.colour i j both.0
-
-label-unseen : (background : Option Rgb) (font : FontFields) (candidates : List CandidateValue) (label : Placed) (width height i j : ℕ) → ShowsNothing font label.at width height → i < width → j < height →
-    colour_at background (label_shapes font candidates label) i j ≡ background
-label-unseen background font candidates label width height i j none left up = go (slice_get candidates label.number)
-  where
-    go : (o : Option CandidateValue) → colour_at background (option_map_or (λ c. candidate_shapes font c label.at) o []) i j ≡ background
-    go None = colour_at-none background i j
-    go (Some c) = candidate-unseen background font c label.at width height i j none left up
 
 column-below : (at w : ℕ) → 0 < w → at % w < w
 column-below at w some = omega arith
@@ -170,15 +170,15 @@ some-column : (at w h : ℕ) → at < w * h → 0 < w
 some-column at zero h below = absurd (omega arith)
 some-column at (suc w) h below = omega arith
 
--- a picture on which a label shows nothing is painted over with it, and stays as it is
-pub unseen-painted : (font : FontFields) (candidates : List CandidateValue) (label : Placed) (a : PictureFields) → length a.pixels ≡ a.width * a.height →
-    ShowsNothing font label.at a.width a.height → IsPainted a a (label_shapes font candidates label)
-unseen-painted font candidates label a area none = record {
+-- a picture on which a candidate shows nothing is painted over with it, and stays as it is
+pub unseen-painted : (font : FontFields) (c : CandidateValue) (at : PixelValue) (a : PictureFields) → length a.pixels ≡ a.width * a.height →
+    ShowsNothing font (reach_of c) at a.width a.height → IsPainted a a (candidate_shapes font c at)
+unseen-painted font c at a area none = record {
   width = refl;
   height = refl;
   area = refl;
-  pixels = λ at h.
-      let below : at < a.width * a.height = omega (arith, area, h) in
-      let some = some-column at a.width a.height below in
-      sym (label-unseen (colour_of a.pixels at) font candidates label a.width a.height (at % a.width) (at / a.width) none (column-below at a.width some) (div_below at a.width a.height some (omega (arith, below))));
+  pixels = λ k h.
+      let below : k < a.width * a.height = omega (arith, area, h) in
+      let some = some-column k a.width a.height below in
+      sym (candidate-unseen (colour_of a.pixels k) font c at a.width a.height (k % a.width) (k / a.width) none (column-below k a.width some) (div_below k a.width a.height some (omega (arith, below))));
 }

@@ -23,7 +23,7 @@ shape_from corner (shape.Stroke line colour) = shape.Stroke (line_from corner li
 shape_from corner (shape.RoundStroke segments colour) = shape.RoundStroke (map (segment_from corner) segments) colour
 shape_from corner (shape.Mark square colour) = shape.Mark (square_from corner square) colour
 shape_from corner (shape.Stamped pixmap) = shape.Stamped (stamp_from corner pixmap)
-shape_from corner (shape.Outlined w colour) = shape.Outlined (record w { at = pixel_from corner w.at }) colour
+shape_from corner (shape.Outlined w reach colour) = shape.Outlined (record w { at = pixel_from corner w.at }) reach colour
 shape_from corner (shape.Inked w colour) = shape.Inked (record w { at = pixel_from corner w.at }) colour
 
 -- the law: it covers, as many columns and rows behind that pixel, what the shape covers, and gives it the same colours

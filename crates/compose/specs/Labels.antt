@@ -1,14 +1,16 @@
 -- The candidates for a picture's labels, and their ink (docs/DRAWING.md, "Labels").
-use Rattle.std.specs.Prelude.{◌≡◌, ℕ, Bool, List, [], ◌∷◌, ◌++◌, Option, None, Some, slice_get, take}
+use Rattle.std.specs.Prelude.{◌≡◌, ℕ, Bool, if◌then◌else◌, nat_lt, List, [], ◌∷◌, ◌++◌, Option, None, Some, slice_get, take}
 use Rattle.std.specs.List.{flat_map}
 use Rattle.std.specs.Option.{is_some, option_map_or}
 use Rattle.std.specs.Str.{chars, encode_utf8_all}
 use Rattle.bdffont.specs.declared.text.TheConstants.{MAX_CHARACTERS}
 use Rattle.geom.specs.Device.{PixelValue}
 use Rattle.scaledenom.specs.Scale.{PictureScale}
-use Rattle.labelcache.specs.Candidate.{CandidateValue}
+use Rattle.labelcache.specs.Candidate.{CandidateValue, outline_width}
 use Rattle.labelcache.specs.Placement.{IsPlacement, setting}
 use Rattle.labelcache.specs.declared.cache.Placed.{Placed}
+use Rattle.labelink.specs.declared.reach.Reach.{Reach}
+use Rattle.labelink.specs.declared.reach.Reach.TheVariants.{Neighbours, Disc}
 use Rattle.mapdefs.specs.Near.{AreCandidates}
 use Rattle.mapdefs.specs.Truth.{item_value}
 use Rattle.mapdefs.specs.declared.class.ClassFields.{ClassFields}
@@ -79,10 +81,14 @@ pub record LabelsValue : Type 0 where
   pub candidates : List CandidateValue
   pub placed : List Placed
 
+-- how far the outline of a candidate reaches: on a fine picture as far as it is wide, and on another to the neighbours of ink
+abbrev pub reach_of : CandidateValue → Reach
+reach_of c = if nat_lt 1 c.factor then Disc (outline_width c) else Neighbours
+
 -- outline and glyphs are painted where there is a colour
-abbrev pub outlines : Written → Option Rgb → List PaintedShape
-outlines w None = []
-outlines w (Some colour) = shape.Outlined w colour ∷ []
+abbrev pub outlines : Written → Reach → Option Rgb → List PaintedShape
+outlines w reach None = []
+outlines w reach (Some colour) = shape.Outlined w reach colour ∷ []
 
 abbrev pub inks : Written → Option Rgb → List PaintedShape
 inks w None = []
@@ -92,7 +98,7 @@ inks w (Some colour) = shape.Inked w colour ∷ []
 abbrev pub candidate_shapes : FontFields → CandidateValue → PixelValue → List PaintedShape
 candidate_shapes font c at =
     let w : Written = record { font = font; characters = chars c.text; at = at } in
-    outlines w c.label.outline ++ inks w c.label.colour
+    outlines w (reach_of c) c.label.outline ++ inks w c.label.colour
 
 -- what is painted of a label
 abbrev pub label_shapes : FontFields → List CandidateValue → Placed → List PaintedShape

@@ -5,11 +5,18 @@ use Rattle.mapdefs.specs.declared.font.BitmapBox.{BitmapBox}
 use Rattle.mapdefs.specs.declared.font.FontFields.{FontFields}
 use Rattle.bdffont.specs.Ink.{has_ink}
 use Rattle.labelink.specs.Ink.{has_outline}
+use Rattle.labelink.specs.declared.reach.Reach.{Reach}
+use Rattle.labelink.specs.declared.reach.Reach.TheVariants.{Neighbours, Disc}
 
--- whatever its characters are, a text in the font whose corner is a pixel has no ink and no outline on a picture of that width and height
-abbrev pub ShowsNothing : FontFields → PixelValue → ℕ → ℕ → Type 0
-ShowsNothing font at width height = (characters : List ℕ) (i j : ℕ) → i < width → j < height →
-    (has_ink font characters at (pos i) (pos j) ≡ false) × (has_outline font characters at (pos i) (pos j) ≡ false)
+-- how many columns and rows from ink an outline reaches
+abbrev pub pixels_of : Reach → ℕ
+pixels_of Neighbours = 1
+pixels_of (Disc r) = r
+
+-- whatever its characters are, a text in the font whose corner is a pixel has no ink and no such outline on a picture of that width and height
+abbrev pub ShowsNothing : FontFields → Reach → PixelValue → ℕ → ℕ → Type 0
+ShowsNothing font reach at width height = (characters : List ℕ) (i j : ℕ) → i < width → j < height →
+    (has_ink font characters at (pos i) (pos j) ≡ false) × (has_outline reach font characters at (pos i) (pos j) ≡ false)
 
 -- the first row under the line that the letters of a text stand on, whose corner is a pixel, in a font with that box
 abbrev pub line_of : BitmapBox → PixelValue → ℤ

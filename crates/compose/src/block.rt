@@ -6,16 +6,16 @@ ghost use Rattle.moves.specs.Moves.{pixel_from};
 ghost use Rattle.viewport.specs.View.{whole_of};
 ghost use Rattle.canvas.specs.Painted.{IsPainted};
 ghost use Rattle.compose.specs.Blocks.{IsBlockOf, corner_of, label_from, whole_colour};
-ghost use Rattle.compose.specs.Labels.{candidate_list, ink_list, label_shapes};
+ghost use Rattle.compose.specs.Labels.{candidate_list, candidate_shapes, ink_list, label_shapes};
 
 use crate::drawing::Drawing;
-use crate::ink::paint_label;
+use crate::ink::{paint_candidate, reach_of};
 use crate::labels::Labels;
 use crate::paint::{PictureQuery, draw_chosen};
-use crate::reach::may_show;
+use crate::reach::{Sides, may_show};
 use canvas::Canvas;
 use geom::Pixel;
-use labelcache::{Cache, Placed};
+use labelcache::{Cache, Candidate, Placed};
 use mapdefs::{Font, Near};
 use scene::Scene;
 use std::alloc::AllocError;
@@ -83,10 +83,29 @@ fn paint_shown(
 ) -> Result<(), AllocError>
     ensures { OnOk result (IsPainted canvas.old canvas.new (label_shapes font.now labels.now label)) }
 {
-    if !may_show(font, label.at, canvas.width(), canvas.height()) {
+    match labels.candidate(label.number) {
+        Some(candidate) => paint_where_shown(canvas, font, candidate, label.at),
+        None => Ok(()),
+    }
+}
+
+// Paints a candidate's text with its corner at a pixel, unless all of it lies too far from the canvas to show there.
+fn paint_where_shown(
+    canvas: &mut Canvas,
+    font: &Font,
+    candidate: &Candidate<'_>,
+    at: Pixel,
+) -> Result<(), AllocError>
+    ensures { OnOk result (IsPainted canvas.old canvas.new (candidate_shapes font.now candidate.now at)) }
+{
+    let sides = Sides {
+        width: canvas.width(),
+        height: canvas.height(),
+    };
+    if !may_show(font, reach_of(candidate), at, sides) {
         return Ok(());
     }
-    paint_label(canvas, font, labels, label)
+    paint_candidate(canvas, font, candidate, at)
 }
 
 // A label that is placed on the whole picture of a view, as it lies from the canvas's first pixel.

@@ -3,14 +3,15 @@ ghost use Rattle.std.specs.List.{flat_map, list_any};
 ghost use Rattle.std.specs.Str.{chars};
 ghost use Rattle.bdffont.specs.declared.text.TheConstants.{MAX_CHARACTERS};
 ghost use Rattle.labelink.specs.Ink.{outlines_glyph};
+ghost use Rattle.labelink.specs.declared.reach.Reach.TheVariants.{Neighbours, Disc};
 ghost use Rattle.compose.specs.Drawn.{HasLabels};
-ghost use Rattle.compose.specs.Labels.{candidate_shapes, inks, label_shapes, outlines};
+ghost use Rattle.compose.specs.Labels.{candidate_shapes, inks, label_shapes, outlines, reach_of};
 ghost use Rattle.canvas.specs.Painted.{IsFilled, IsPainted};
 
 use canvas::{Canvas, paint_cover, paint_covers};
 use geom::Pixel;
 use labelcache::{Cache, Candidate, Placed};
-use labelink::{GlyphOutline, PlacedGlyph, text_glyphs};
+use labelink::{DiscChords, GlyphOutline, PlacedGlyph, Reach, outline_runs, text_glyphs};
 use mapdefs::{Font, Rgb};
 use scene::Scene;
 use std::alloc::{AllocError, Global};
@@ -53,11 +54,16 @@ impl<'a> WrittenText<'a> {
     }
 
     // Paints the outline round all glyphs, where there is a colour.
-    fn paint_outline(&self, canvas: &mut Canvas, colour: Option<Rgb>) -> Result<(), AllocError>
-        ensures { OnOk result (IsPainted canvas.old canvas.new (outlines self.now colour)) }
+    fn paint_outline(
+        &self,
+        canvas: &mut Canvas,
+        reach: Reach,
+        colour: Option<Rgb>,
+    ) -> Result<(), AllocError>
+        ensures { OnOk result (IsPainted canvas.old canvas.new (outlines self.now reach colour)) }
     {
         match colour {
-            Some(colour) => paint_outlines(canvas, &self.glyphs, colour),
+            Some(colour) => paint_outlines(canvas, &self.glyphs, reach, colour),
             None => Ok(()),
         }
     }
@@ -77,9 +83,27 @@ impl<'a> WrittenText<'a> {
 fn paint_outlines(
     canvas: &mut Canvas,
     glyphs: &[PlacedGlyph<'_>],
+    reach: Reach,
     colour: Rgb,
 ) -> Result<(), AllocError>
-    ensures { OnOk result (IsFilled (λ i j. list_any (λ g. outlines_glyph g (pos i) (pos j)) glyphs.now) (λ i j. Some colour) canvas.old canvas.new) }
+    ensures { OnOk result (IsFilled (λ i j. list_any (λ g. outlines_glyph reach g (pos i) (pos j)) glyphs.now) (λ i j. Some colour) canvas.old canvas.new) }
+{
+    match reach {
+        Reach::Neighbours => paint_neighbours(canvas, glyphs, colour),
+        Reach::Disc(pixels) => {
+            let chords = DiscChords::new(canvas.alloc(), pixels)?;
+            paint_discs(canvas, glyphs, &chords, colour)
+        }
+    }
+}
+
+// Gives it to the neighbours of the ink of some glyph.
+fn paint_neighbours(
+    canvas: &mut Canvas,
+    glyphs: &[PlacedGlyph<'_>],
+    colour: Rgb,
+) -> Result<(), AllocError>
+    ensures { OnOk result (IsFilled (λ i j. list_any (λ g. outlines_glyph Neighbours g (pos i) (pos j)) glyphs.now) (λ i j. Some colour) canvas.old canvas.new) }
 {
     for glyph in glyphs {
         paint_cover(canvas, &GlyphOutline::of(glyph), colour)?;
@@ -87,8 +111,35 @@ fn paint_outlines(
     Ok(())
 }
 
-// Paints a candidate's text with its corner at a pixel: its outline, and then its glyphs.
-fn paint_candidate(
+// Gives it to the pixels in the discs round the ink of some glyph.
+fn paint_discs(
+    canvas: &mut Canvas,
+    glyphs: &[PlacedGlyph<'_>],
+    chords: &DiscChords,
+    colour: Rgb,
+) -> Result<(), AllocError>
+    ensures { OnOk result (IsFilled (λ i j. list_any (λ g. outlines_glyph (Disc chords.now) g (pos i) (pos j)) glyphs.now) (λ i j. Some colour) canvas.old canvas.new) }
+{
+    for glyph in glyphs {
+        let runs = outline_runs(canvas.alloc(), glyph, chords)?;
+        paint_covers(canvas, &runs, colour)?;
+    }
+    Ok(())
+}
+
+/// How far the outline of a candidate reaches.
+pub fn reach_of(candidate: &Candidate<'_>) -> Reach
+    ensures { result ≡ reach_of candidate.now }
+{
+    if candidate.factor().times() > 1 {
+        Reach::Disc(candidate.outline_width())
+    } else {
+        Reach::Neighbours
+    }
+}
+
+/// Paints a candidate's text with its corner at a pixel: its outline, and then its glyphs.
+pub fn paint_candidate(
     canvas: &mut Canvas,
     font: &Font,
     candidate: &Candidate<'_>,
@@ -98,12 +149,12 @@ fn paint_candidate(
 {
     let text = WrittenText::new(canvas.alloc(), font, candidate.text(), at)?;
     let label = candidate.label();
-    text.paint_outline(canvas, label.outline)?;
+    text.paint_outline(canvas, reach_of(candidate), label.outline)?;
     text.paint_ink(canvas, label.colour)
 }
 
-/// Paints a label.
-pub fn paint_label(
+// Paints a label.
+fn paint_label(
     canvas: &mut Canvas,
     font: &Font,
     labels: &Cache<'_>,

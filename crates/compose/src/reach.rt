@@ -1,10 +1,11 @@
 //! How far the ink of a text reaches from its corner.
 
-ghost use Rattle.std.specs.Prelude.{◌≡◌, ◌≤ℤ◌, ◌+ℤ◌, ◌^◌, true, false, pos};
+ghost use Rattle.std.specs.Prelude.{◌≡◌, ◌≤◌, ◌≤ℤ◌, ◌+ℤ◌, ◌^◌, true, false, pos};
 ghost use Rattle.geom.specs.Range.{IsBelow};
-ghost use Rattle.compose.specs.Reach.{ShowsNothing, line_of};
+ghost use Rattle.compose.specs.Reach.{ShowsNothing, line_of, pixels_of};
 
 use geom::{PictureSide, Pixel};
+use labelink::Reach;
 use mapdefs::{BitmapBox, Font};
 
 // The first row under the line that the letters of a text stand on.
@@ -16,25 +17,46 @@ fn line_of(font: BitmapBox, at: Pixel) -> i64
 }
 
 // Whether a column, or a row, comes so many or more after the last of a side.
-fn is_after(at: i64, side: PictureSide, more: u8) -> bool
+fn is_after(at: i64, side: PictureSide, more: u16) -> bool
     requires { IsBelow (2 ^ 45) at }
     ensures { result ≡ true → (pos side +ℤ pos more) ≤ℤ at }
 {
     at >= i64::from(side.pixels()) + i64::from(more)
 }
 
-/// Whether a text in the font whose corner is a pixel may have ink, or an outline, on a picture of these sides. It looks
-/// at no glyph: by the limits of fonts, ink lies at most 64 columns left of the corner, and at most 128 rows above and 64
-/// below the line that letters stand on, and an outline a pixel further.
-pub fn may_show(font: &Font, at: Pixel, width: PictureSide, height: PictureSide) -> bool
-    ensures { result ≡ false → ShowsNothing font.now at width height }
+// How many columns and rows from ink an outline reaches.
+fn pixels_of(reach: Reach) -> u16
+    ensures value { result ≡ pixels_of reach }
+    ensures most { result ≤ 255 }
+{
+    match reach {
+        Reach::Neighbours => 1,
+        Reach::Disc(pixels) => u16::from(pixels),
+    }
+}
+
+/// The sides of the picture on which a text may show.
+#[derive(Clone, Copy)]
+pub struct Sides {
+    /// The number of columns.
+    pub width: PictureSide,
+    /// The number of rows.
+    pub height: PictureSide,
+}
+
+/// Whether a text in the font whose corner is a pixel may have ink, or an outline of that reach, on a picture. It looks at no
+/// glyph: by the limits of fonts, ink lies at most 64 columns left of the corner, and at most 128 rows above and 64 below the
+/// line that letters stand on, and an outline as many pixels further as it reaches.
+pub fn may_show(font: &Font, reach: Reach, at: Pixel, sides: Sides) -> bool
+    ensures { result ≡ false → ShowsNothing font.now reach at sides.width sides.height }
 {
     let line = line_of(font.get().bounds, at);
-    if is_after(at.i(), width, 65) {
+    let more = pixels_of(reach);
+    if is_after(at.i(), sides.width, 64 + more) {
         return false;
     }
-    if is_after(line, height, 129) {
+    if is_after(line, sides.height, 128 + more) {
         return false;
     }
-    line > -65
+    line > -64 - i64::from(more)
 }

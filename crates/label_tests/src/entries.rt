@@ -35,6 +35,7 @@ pub(crate) fn plain_label() -> LabelFields {
             blue: 30,
         }),
         outline: None,
+        outline_width: 1,
         priority: 1,
         position: Position::Centre,
         buffer: 0,
@@ -47,6 +48,7 @@ pub(crate) fn plain_label() -> LabelFields {
 /// The label of fields, which are brought within the limits.
 pub(crate) fn label_of(fields: LabelFields) -> Label {
     Label::new(LabelFields {
+        outline_width: fields.outline_width.clamp(1, 8),
         priority: fields.priority.clamp(1, 10),
         buffer: fields.buffer.min(64),
         mindistance: fields.mindistance.min(4_096),

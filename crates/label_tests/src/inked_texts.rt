@@ -2,7 +2,7 @@ use crate::entries::side;
 use crate::fonts::font_of;
 use bdffont::is_short;
 use geom::{PictureSide, Pixel};
-use labelink::{PlacedGlyph, text_glyphs};
+use labelink::{DiscChords, PlacedGlyph, outline_runs, text_glyphs};
 use mapdefs::Font;
 use scanfill::{Cover, Spans};
 use std::alloc::{AllocError, Global};
@@ -27,9 +27,9 @@ fn pixel([i, j]: [i64; 2]) -> Pixel {
     Pixel::new(i.clamp(-100, 100), j.clamp(-100, 100))
 }
 
-// Whether a glyph covers a pixel, by its rows, or nothing where the test of the pixel alone differs.
-fn is_covered(
-    glyph: &PlacedGlyph<'_>,
+// Whether a glyph, or an outline, covers a pixel, by its rows, or nothing where the test of the pixel alone differs.
+fn is_covered<C: Cover>(
+    glyph: &C,
     spans: &mut Spans,
     width: PictureSide,
     i: u16,
@@ -50,8 +50,8 @@ fn is_covered(
 
 // The mark of a pixel: `#` where one of the glyphs covers it, `.` where none does, and `?` where one of them
 // gives two answers for it.
-fn mark(
-    glyphs: &[PlacedGlyph<'_>],
+fn mark<C: Cover>(
+    glyphs: &[C],
     spans: &mut Spans,
     width: PictureSide,
     i: u16,
@@ -69,7 +69,7 @@ fn mark(
 }
 
 // Draws 8 columns of 5 rows, each row with a `/` after it.
-fn draw(out: &mut String, alloc: Global, glyphs: &[PlacedGlyph<'_>]) -> Result<(), AllocError> {
+fn draw<C: Cover>(out: &mut String, alloc: Global, glyphs: &[C]) -> Result<(), AllocError> {
     let width = side(8);
     let mut spans = Spans::new(alloc);
     for j in 0..5_u16 {
@@ -112,4 +112,32 @@ const TEXTS: &str = "\
 #[test]
 fn texts_have_worked_glyphs(rt: HostRuntime) -> Result<(), TableFault> {
     check_rows(rt.alloc(), TEXTS, '=', 11, drawn)
+}
+
+// What is drawn of the outline of an A: how many pixels it reaches, and the column and the row of the text's upper left pixel.
+fn outlined(alloc: Global, row: &str) -> Result<String, AllocError> {
+    let [reach, i, j] = numbers::<3>(row, ' ').ok_or(AllocError)?;
+    let font = font_of(alloc, "tiny")?;
+    let glyphs = glyphs_of(alloc, &font, "A", pixel([i, j]))?;
+    let chords = DiscChords::new(alloc, reach.clamp(0, 255) as u8)?;
+    let mut picture = String::new(alloc);
+    for glyph in &glyphs {
+        let runs = outline_runs(alloc, glyph, &chords)?;
+        draw(&mut picture, alloc, &runs)?;
+    }
+    Ok(picture)
+}
+
+// The ink of the A is that of `##` over `#.`.
+const OUTLINES: &str = "\
+......../...##.../...#..../......../......../=0 3 1
+...##.../..####../..###.../...#..../......../=1 3 1
+..####../.######./.#####../..###.../...#..../=2 3 1
+# of ink that is off the picture
+......../#......./......../......../......../=2 -3 1
+......##/.....###/.....###/....####/....####/=4 8 3";
+
+#[test]
+fn outlines_are_discs_round_ink(rt: HostRuntime) -> Result<(), TableFault> {
+    check_rows(rt.alloc(), OUTLINES, '=', 5, outlined)
 }

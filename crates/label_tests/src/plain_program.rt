@@ -123,7 +123,11 @@ fn label_at(ground: &Ground<'_>, entry: &Entry, number: usize, position: Positio
         top_at(position, entry.j, height),
     );
     let label = entry.label.get();
-    let outline = if label.outline.is_some() { 1 } else { 0 };
+    let outline = match (label.outline, entry.factor.times()) {
+        (None, _) => 0,
+        (Some(_), 1) => 1,
+        (Some(_), _) => entry.fine(i64::from(label.outline_width)),
+    };
     let grown = entry.fine(i64::from(label.buffer)).wrapping_add(outline);
     PlainLabel {
         number,
@@ -239,6 +243,7 @@ fn next_label(state: &mut u64) -> LabelFields {
         } else {
             plain.colour
         },
+        outline_width: [1, 1, 2, 3, 5, 8][next(state, 6).clamp(0, 5) as usize],
         priority: [1, 1, 2, 3, 9, 10][next(state, 6).clamp(0, 5) as usize],
         position: next_position(state),
         buffer: [0, 0, 0, 1, 2, 5][next(state, 6).clamp(0, 5) as usize],

@@ -24,7 +24,7 @@ fn position_of(keyword: &str) -> Position {
 }
 
 /// Sets the field of a code: `F` for FORCE, `P` for PARTIALS, `o` for an outline, `n` for no colour, a colour as `c#`
-/// and that of an outline as `r#`, a priority as `p2`, a buffer as `b3`, a distance as `d5`, and else a position.
+/// and that of an outline as `r#`, the width of an outline as `w2`, a priority as `p2`, a buffer as `b3`, a distance as `d5`, and else a position.
 pub(crate) fn set(label: &mut LabelFields, code: &str) {
     if let Some(letter) = code.strip_prefix('c') {
         label.colour = colour_of(letter);
@@ -38,6 +38,8 @@ pub(crate) fn set(label: &mut LabelFields, code: &str) {
         label.outline = label.colour;
     } else if code == "n" {
         label.colour = None;
+    } else if let Some(width) = code.strip_prefix('w') {
+        label.outline_width = width.parse::<u8>().unwrap_or(0);
     } else if let Some(priority) = code.strip_prefix('p') {
         label.priority = priority.parse::<u8>().unwrap_or(0);
     } else if let Some(buffer) = code.strip_prefix('b') {
@@ -187,9 +189,13 @@ const PLACED: &str = "\
 0@13,21:13,21-20,26 =uneven 40|AB 20 20 LL
 0@17,21:17,21-24,26 =uneven 40|AB 20 20 LC
 0@21,21:21,21-28,26 =uneven 40|AB 20 20 LR
-# a buffer and a distance are those of the map, and an outline is a pixel wide
+# the width of an outline counts on fine pictures alone
+0@3,3:2,2-7,6 =tiny 10|A 4 4 o w2
+# a buffer, a distance and the width of an outline are those of the map
 0@19,19:13,13-28,27 =tiny 40|A 20 20 b2 f3
-0@19,19:14,14-27,26 =tiny 40|A 20 20 b1 o f4
+0@19,19:11,11-30,29 =tiny 40|A 20 20 b1 o f4
+0@19,19:10,10-31,30 =tiny 40|A 20 20 b1 o w2 f3
+0@19,19:3,3-38,37 =tiny 40|A 20 20 o w8 f2
 1@21,19:21,19-24,21 0@9,19:9,19-12,21 =tiny 40|A 10 20 d4 f3;A 22 20
 1@21,19:21,19-24,21 =tiny 40|A 10 20 d4 f4;A 22 20
 # in the last corner of the largest picture, and a pixel too far right or down
@@ -199,7 +205,7 @@ const PLACED: &str = "\
 
 #[test]
 fn labels_stand_at_worked_corners(rt: HostRuntime) -> Result<(), TableFault> {
-    check_rows(rt.alloc(), PLACED, '=', 50, result_of_row)
+    check_rows(rt.alloc(), PLACED, '=', 53, result_of_row)
 }
 
 // The result for the first candidate of a row: the corner of its text, or `-`.

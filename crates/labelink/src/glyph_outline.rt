@@ -1,6 +1,7 @@
 ghost use Rattle.std.specs.Prelude.{◌≡◌, ℕ, ◌+◌, ◌<◌, ◌≤◌, ◌^◌, ◌||◌, pos, ◌+ℤ◌, ◌-ℤ◌, ◌<ℤ◌, ◌≤ℤ◌};
 ghost use Rattle.geom.specs.Range.{IsBelow};
 ghost use Rattle.labelink.specs.Ink.{covers_glyph, outlines_glyph};
+ghost use Rattle.labelink.specs.declared.reach.Reach.TheVariants.{Neighbours};
 
 use crate::placed_glyph::PlacedGlyph;
 use clip::RowRange;
@@ -75,14 +76,14 @@ impl<'a> GlyphOutline<'a> {
 
     /// Whether the glyph covers a neighbour of the pixel in a column and a row.
     pub fn is_outlined(&self, i: u16, j: u16) -> bool
-        ensures { result ≡ outlines_glyph self.now (pos i) (pos j) }
+        ensures { result ≡ outlines_glyph Neighbours self.now (pos i) (pos j) }
     {
         self.covers_near(i, i64::from(j) - 1) || self.covers_beside_or_below(i, j)
     }
 }
 
 impl Cover for GlyphOutline<'_> {
-    ghost covered = { λ o i j. outlines_glyph o (pos i) (pos j) };
+    ghost covered = { λ o i j. outlines_glyph Neighbours o (pos i) (pos j) };
 
     fn covers(&self, i: u16, j: u16) -> bool {
         self.is_outlined(i, j)
@@ -103,7 +104,7 @@ impl Cover for GlyphOutline<'_> {
 }
 
 impl BoxShape for GlyphOutline<'_> {
-    ghost covered = { λ o i j. outlines_glyph o (pos i) (pos j) };
+    ghost covered = { λ o i j. outlines_glyph Neighbours o (pos i) (pos j) };
 
     fn has_pixel(&self, i: u16, j: u16) -> bool {
         self.is_outlined(i, j)

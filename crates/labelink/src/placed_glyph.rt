@@ -1,4 +1,6 @@
-ghost use Rattle.std.specs.Prelude.{◌≡◌, ℕ, ◌<◌, ◌≤◌, ◌^◌, pos, ◌+ℤ◌, ◌<ℤ◌, ◌≤ℤ◌};
+ghost use Rattle.std.specs.Prelude.{◌≡◌, ℕ, ◌<◌, ◌≤◌, ◌^◌, pos, ◌+ℤ◌, ◌<ℤ◌, ◌≤ℤ◌, [], OnOk, OnErr};
+ghost use Rattle.bdffont.specs.Ink.{inks};
+ghost use Rattle.scanfill.specs.Runs.{AreRunsFrom};
 ghost use Rattle.geom.specs.Range.{IsBelow};
 ghost use Rattle.labelink.specs.Ink.{covers_glyph};
 
@@ -65,6 +67,21 @@ impl<'a> PlacedGlyph<'a> {
         ensures limits { IsBelow (2 ^ 47) result.1 }
     {
         (self.glyph.bounds.height, self.top)
+    }
+
+    /// Leaves in `out` the longest runs of ink of a row of its box, by its own columns. Where memory is refused `out` is empty.
+    pub fn ink_of_row(&self, row: u8, out: &mut Spans) -> Result<(), AllocError>
+        ensures ok { OnOk result (AreRunsFrom (λ i. inks self.now.glyph i row) 0 self.now.glyph.bounds.width out.new) }
+        ensures err { OnErr result (out.new ≡ []) }
+    {
+        out.clear();
+        let width = self.glyph.bounds.width;
+        if width == 0 {
+            return Ok(());
+        }
+        let alone = PlacedGlyph::new(self.glyph, 0, 0);
+        let side = PictureSide::with_last(u16::from(width - 1));
+        alone.row(u16::from(row), side, out)
     }
 
     /// Whether it covers the pixel in a column and a row, in the picture or off it.

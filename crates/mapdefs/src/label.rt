@@ -23,6 +23,8 @@ pub struct LabelFields {
     pub colour: Option<Rgb>,
     /// The colour round them; without one they have no outline.
     pub outline: Option<Rgb>,
+    /// How wide the outline is on a fine picture, in pixels of the map. Elsewhere it has the eight neighbours of ink.
+    pub outline_width: u8,
     /// Labels of higher priority go first.
     pub priority: u8,
     pub position: Position,
@@ -42,6 +44,6 @@ impl Limits for LabelFields {
     ghost within = { IsLabelWithinLimits };
 }
 
-/// The label of a class. Its priority is 1 to `MAX_PRIORITY`, its buffer at most `MAX_BUFFER` and its
-/// distance at most `MAX_DISTANCE`.
+/// The label of a class. Its outline's width is 1 to `MAX_OUTLINE_WIDTH`, its priority 1 to `MAX_PRIORITY`, its buffer at
+/// most `MAX_BUFFER` and its distance at most `MAX_DISTANCE`.
 pub type Label = Limited<LabelFields>;

@@ -40,6 +40,12 @@ pub const MAX_FINE_SQUARE: u16 = 1_024;
 /// The greatest side of a symbol, in pixels.
 pub const MAX_SYMBOL_SIDE: u16 = 256;
 
+/// The greatest width of a label's outline, in pixels.
+pub const MAX_OUTLINE_WIDTH: u8 = 8;
+
+/// The greatest width of one on a fine picture, in its pixels: `geom::MAX_FACTOR` times `MAX_OUTLINE_WIDTH`.
+pub const MAX_FINE_OUTLINE: u8 = 32;
+
 /// The greatest priority of a label.
 pub const MAX_PRIORITY: u8 = 10;
 

@@ -34,7 +34,7 @@ pub struct Hints<'a> {
     pub begun: bool,
     /// The last NAME of a LAYER.
     pub name: &'a str,
-    /// What the open block lacks of what its END requires, if it lacks something.
+    /// What the open block lacks of what its END requires, if it lacks something, as the SYMBOL of a MAP.
     pub missing: Option<&'static str>,
     /// The quoted texts up to the fault, with its token.
     pub quoted: QuotedTexts,

@@ -8,7 +8,8 @@ use crate::foreign::advice;
 use crate::openings::Opening;
 use expressions::{ExprError, read};
 use mapdefs::{
-    MAX_CLASSES, MAX_FEATURES, MAX_ITEMS, MAX_LAYERS, MAX_STYLES, MAX_SYMBOLS, MAX_VERTICES, Text,
+    MAX_CLASSES, MAX_FEATURES, MAX_ITEMS, MAX_LAYERS, MAX_OUTLINE_WIDTH, MAX_STYLES, MAX_SYMBOLS,
+    MAX_VERTICES, Text,
 };
 use maplex::{ByteFault, LexKind, Shape, Token, byte_fault};
 use maptree::Context;
@@ -152,8 +153,25 @@ fn no_expression(alloc: Global, token: &Token, shown: &str) -> Result<String, Al
     format!(in alloc; "{shown} is no expression: nothing is read from {rest} on")
 }
 
+// The message on the END of a MAP that isn't as its styles and labels need it.
+fn wrong_map(alloc: Global, missing: Option<&str>) -> Result<String, AllocError> {
+    match missing {
+        Some(_) => String::from_str(alloc, "this SYMBOL names no symbol of MAP"),
+        None => {
+            format!(in alloc;
+                "this OUTLINEWIDTH is no count from 1 to {MAX_OUTLINE_WIDTH}, which a smoothed map requires"
+            )
+        }
+    }
+}
+
 // The message on a token that is no value.
-fn wrong_value(alloc: Global, inner: &Opening, token: &str) -> Result<String, AllocError> {
+fn wrong_value(
+    alloc: Global,
+    e: &Explained,
+    inner: &Opening,
+    token: &str,
+) -> Result<String, AllocError> {
     let name = opener(alloc, inner.word)?;
     match inner.context {
         Context::Values(_, expected) => {
@@ -166,9 +184,7 @@ fn wrong_value(alloc: Global, inner: &Opening, token: &str) -> Result<String, Al
         Context::Latitude(_) => {
             format!(in alloc; "{token} is no latitude in {name}: a number from -1000 to 1000")
         }
-        Context::Keywords(Block::Map) => {
-            String::from_str(alloc, "this SYMBOL names no symbol of MAP")
-        }
+        Context::Keywords(Block::Map) => wrong_map(alloc, e.hints.missing),
         Context::Keywords(Block::Layer) => {
             String::from_str(alloc, "DATA needs a LAYER of TYPE POINT")
         }
@@ -280,7 +296,7 @@ impl<'a> Explained<'a> {
     ) -> Result<String, AllocError> {
         let found = found(alloc, token)?;
         match self.kind {
-            ParseKind::WrongValue => wrong_value(alloc, inner, found.as_str()),
+            ParseKind::WrongValue => wrong_value(alloc, self, inner, found.as_str()),
             ParseKind::MissingValue => missing_value(alloc, self, inner),
             ParseKind::Limit => limit(alloc, self, inner, token.text),
             ParseKind::DuplicateName => {

@@ -57,6 +57,7 @@ sound|MAP END
 2: METERS is no value of TOLERANCEUNITS, which takes PIXELS alone|MAP LAYER TOLERANCEUNITS~METERS
 2: OFF is no value of LABELCACHE, which takes ON alone|MAP LAYER LABELCACHE~OFF
 2: this SYMBOL names no symbol of MAP|MAP LAYER NAME a TYPE POINT CLASS STYLE SYMBOL~b END END END~END
+2: this OUTLINEWIDTH is no count from 1 to 8, which a smoothed map requires|MAP CONFIG WMS_SMOOTHING 2 LAYER NAME a TYPE POINT CLASS LABEL OUTLINEWIDTH~9 END END END~END
 1: (a) is no value of NAME, which takes a word or a quoted text|MAP LAYER NAME (a)
 2: x is no longitude in POINTS: a number from -1000 to 1000|MAP LAYER FEATURE POINTS 1 2~x
 2: 1001 is no latitude in POINTS: a number from -1000 to 1000|MAP LAYER FEATURE POINTS 1 2 3~1001
@@ -139,7 +140,7 @@ sound|MAP END
 
 #[test]
 fn faults_are_explained(rt: HostRuntime) -> Result<(), TableFault> {
-    check_rows(rt.alloc(), ROWS, '|', 107, explanation_of_row)
+    check_rows(rt.alloc(), ROWS, '|', 108, explanation_of_row)
 }
 
 // The result for sources with a block, a vertex or an item more than a map may have.

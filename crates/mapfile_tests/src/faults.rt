@@ -81,6 +81,12 @@ const FAULTS: &str = "\
 7 DuplicateName:MAP|LAYER|NAME \"a\"|TYPE POLYGON|END|LAYER|NAME \"a\"|TYPE POLYGON|END|END|
 4 DuplicateName:MAP LAYER NAME A TYPE POLYGON END LAYER NAME a TYPE POLYGON END|LAYER NAME b|NAME|A|TYPE POLYGON|END END
 # The end of the source, after a quoted text that spans lines and a comment that ends one.
+# In a smoothed map the width of an outline, as it counts, is judged at the END of MAP, after the symbols.
+2 WrongValue:MAP CONFIG WMS_SMOOTHING 2 LAYER NAME a TYPE POINT CLASS LABEL|OUTLINEWIDTH 0 END END END END
+4 WrongValue:MAP LAYER NAME a TYPE POINT CLASS LABEL OUTLINEWIDTH 1|OUTLINEWIDTH 2|OUTLINEWIDTH 3|OUTLINEWIDTH 8.6 END END END CONFIG WMS_SMOOTHING 4 END
+2 WrongValue:MAP CONFIG WMS_SMOOTHING 3 LAYER NAME a TYPE POINT CLASS LABEL|OUTLINEWIDTH auto END END CLASS LABEL|OUTLINEWIDTH 9 END END END END
+3 WrongValue:MAP CONFIG WMS_SMOOTHING 2 LAYER NAME a TYPE POINT CLASS LABEL|OUTLINEWIDTH 9 END STYLE SYMBOL|b END END END END
+2 WrongValue:MAP LAYER CLASS LABEL OUTLINEWIDTH|(1)
 1 MissingEnd:MAP
 2 MissingEnd:MAP|
 4 MissingEnd:MAP LAYER NAME '||' # END|
@@ -91,7 +97,7 @@ const FAULTS: &str = "\
 
 #[test]
 fn faults_have_their_lines_and_kinds(rt: HostRuntime) -> Result<(), TableFault> {
-    check_rows(rt.alloc(), FAULTS, ':', 75, result_of_row)
+    check_rows(rt.alloc(), FAULTS, ':', 80, result_of_row)
 }
 
 // Sources with a list, which is no keyword and no value.
@@ -126,9 +132,11 @@ const READ: &str = "\
 1 0 0 2 2:map layer name x type polygon|FEATURE POINTS 1 2 END END FEATURE POINTS 1 2 END END|end end
 1 0 0 0 0:map layer name x type polygon|# END||end end
 1 0 0 0 0:map layer name x type polygon|TYPE|POLYGON|NAME|a|end end
-1 0 0 0 0:map layer name x type polygon|NAME ''|end end";
+1 0 0 0 0:map layer name x type polygon|NAME ''|end end
+1 1 0 0 0:map config WMS_SMOOTHING 1 layer name x type polygon|CLASS LABEL OUTLINEWIDTH 9 OUTLINEWIDTH 'auto' END END|end end
+1 1 0 0 0:map config WMS_SMOOTHING 4 layer name x type polygon|CLASS LABEL OUTLINEWIDTH 9 OUTLINEWIDTH 7.6 END END|end end";
 
 #[test]
 fn keywords_and_values_are_read(rt: HostRuntime) -> Result<(), TableFault> {
-    check_rows(rt.alloc(), READ, ':', 13, result_of_row)
+    check_rows(rt.alloc(), READ, ':', 15, result_of_row)
 }

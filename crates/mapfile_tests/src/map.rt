@@ -52,6 +52,8 @@ const WHOLE: &str = "MAP
         COLOR 1 1 1
         COLOR 12 34 56
         OUTLINECOLOR '#010203'
+        OUTLINEWIDTH 4
+        OUTLINEWIDTH 3
         PRIORITY 2
         PRIORITY 9
         POSITION ul
@@ -78,7 +80,7 @@ const WHOLE: &str = "MAP
     END
     CLASS
       EXPRESSION '/deep/'
-      LABEL MINDISTANCE -1 FORCE TRUE COLOR -1 2 3 END
+      LABEL MINDISTANCE -1 FORCE TRUE COLOR -1 2 3 OUTLINEWIDTH 9 END
       STYLE COLOR 4 5 6 COLOR '#0b2c4d' END
       STYLE COLOR 7 8 9 COLOR 40 -1 60 OUTLINECOLOR '#010a64' END
       STYLE OUTLINECOLOR 7 8 9 COLOR 70 80 90 OUTLINECOLOR 41 51 -1 END
@@ -110,7 +112,7 @@ const SAID: &str = "\
 map Waters http://b.example/map? -10000000 20500000 30000000 40000000 None 0;\
 layer Lakes Inland waters Polygon true kind label [kind] [ label] [depth] lon lat=y true 5 1000500000 2000000000000;\
 class in [shallow] [deep water] [ ] 3000000 4000000;\
-label Some(Rgb { red: 12, green: 34, blue: 56 }) Some(Rgb { red: 1, green: 2, blue: 3 }) 9 LowerCentre 5 60 true false;\
+label Some(Rgb { red: 12, green: 34, blue: 56 }) Some(Rgb { red: 1, green: 2, blue: 3 }) 9 LowerCentre 5 60 outline 3 true false;\
 style 10 20 30, 13 23 33, 3 7 None;\
 style none, none, 1 1 None;\
 class is /deep/ - -;\

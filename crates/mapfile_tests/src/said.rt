@@ -72,6 +72,9 @@ fn write_label(text: &mut String, label: &Label) -> Result<(), AllocError> {
         text,
         "label {colour:?} {outline:?} {priority} {position:?} {buffer} {distance}"
     )?;
+    if label.outline_width > 1 {
+        write!(text, " outline {}", label.outline_width)?;
+    }
     write!(text, " {} {}\n", label.partials, label.force)
 }
 

@@ -27,6 +27,7 @@ use Rattle.mapwords.specs.declared.table.ScaleKeyword.TheVariants.{Min, Max}
 use Rattle.mapwords.specs.declared.table.ColourKeyword.{ColourKeyword}
 use Rattle.mapwords.specs.declared.table.ColourKeyword.TheVariants.{Color, OutlineColor}
 use Rattle.mapwords.specs.declared.value.Value.{Value}
+use Rattle.maptree.specs.Outline.{outline_width_of}
 use Rattle.maptree.specs.Symbol.{symbol_of}
 use Rattle.maptree.specs.Values.{colour_in, count_in, extent_in, flag_in, items_in, last, position_in, rule_in, scale_in, text_in, words_in}
 use Rattle.maptree.specs.declared.tree.ClassTree.{ClassTree}
@@ -54,12 +55,13 @@ style_of symbols style = record {
   symbol = symbol_index symbols (symbol_of style);
 }
 
--- by default a label is black, has the priority 1, stands centred on its anchor, keeps no distance, and is neither cut off
+-- by default a label is black, its outline one pixel wide, has the priority 1, stands centred on its anchor, keeps no distance, and is neither cut off
 -- nor placed over others
 abbrev pub label_of : List Value → LabelFields
 label_of label = record {
   colour = unwrap_or (last (colour_in Color) label) (Some (record { red = 0; green = 0; blue = 0 }));
   outline = painted OutlineColor label;
+  outline_width = unwrap_or (outline_width_of label) 1;
   priority = unwrap_or (last (count_in Priority) label) 1;
   position = unwrap_or (last position_in label) Centre;
   buffer = unwrap_or (last (count_in Buffer) label) 0;

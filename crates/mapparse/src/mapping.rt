@@ -2,11 +2,12 @@ ghost use Rattle.std.specs.Prelude.{◌≡◌, ◌+◌, ◌≤◌, List, map, zi
 ghost use Rattle.mapdefs.specs.declared.symbol.Symbol.{Symbol as SymbolValue};
 ghost use Rattle.mapwords.specs.Fault.{IsFaultOf};
 ghost use Rattle.geom.specs.World.{IsExtent};
-ghost use Rattle.mapdefs.specs.declared.limits.TheConstants.{MAX_CLASSES, MAX_SYMBOLS};
+ghost use Rattle.mapdefs.specs.declared.limits.TheConstants.{MAX_CLASSES, MAX_OUTLINE_WIDTH, MAX_SYMBOLS};
 ghost use Rattle.mapdefs.specs.ClassLimits.{IsRuleWithinLimits};
 ghost use Rattle.mapdefs.specs.declared.class.Rule.TheVariants.{Always};
 ghost use Rattle.mapparse.specs.Mapping.{painted, label_of, class_of, layer_of, whole_world, map_with, made_of, map_of};
 ghost use Rattle.mapparse.specs.Fonts.{font_given};
+ghost use Rattle.maptree.specs.Outline.{outline_width_of};
 ghost use Rattle.maptree.specs.Values.{count_in, last};
 ghost use Rattle.mapwords.specs.declared.table.CountKeyword.TheVariants.{Smoothing};
 ghost use Rattle.mapparse.specs.Uses.{font_file};
@@ -28,7 +29,7 @@ use mapdefs::{
 };
 use maptree::{
     Capped, ClassRule, ClassTree, Extent, LayerBody, LayerTree, MapTree, Named, ParseFault, Values,
-    symbol_of,
+    outline_width_of, symbol_of,
 };
 use mapwords::{ColourKeyword, CountKeyword, FlagKeyword, ScaleKeyword};
 use std::alloc::{AllocError, Global};
@@ -97,6 +98,15 @@ fn rule_of(rule: Option<ClassRule>) -> Rule
     }
 }
 
+// The width of a label's outline, by default one pixel.
+fn outline_width(label: &Values) -> u8
+    ensures value { result ≡ unwrap_or (outline_width_of label.now) 1 }
+    ensures some { 1 ≤ result }
+    ensures most { result ≤ MAX_OUTLINE_WIDTH }
+{
+    outline_width_of(label).unwrap_or(1) as u8
+}
+
 // The label of a class.
 fn label_of(values: Values) -> Label
     ensures { result ≡ label_of values }
@@ -113,6 +123,7 @@ fn label_of(values: Values) -> Label
     Label::new(LabelFields {
         colour: colour.unwrap_or(Some(black)),
         outline: painted(&values, ColourKeyword::OutlineColor),
+        outline_width: outline_width(&values),
         priority: count_or(&values, CountKeyword::Priority, 1) as u8,
         position: position.unwrap_or(Position::Centre),
         buffer: count_or(&values, CountKeyword::Buffer, 0) as u8,

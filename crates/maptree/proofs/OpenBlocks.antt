@@ -25,7 +25,8 @@ use Rattle.maptree.specs.Data.{table_fault, with_table}
 use Rattle.maptree.specs.Draft as draft
 use Rattle.maptree.specs.End.{layer_with, finished_layer, symbol_with, ends}
 use Rattle.maptree.specs.End as end
-use Rattle.maptree.specs.Symbol.{symbol_fault, map_fault}
+use Rattle.maptree.specs.Outline.{map_fault}
+use Rattle.maptree.specs.Symbol.{symbol_fault}
 use Rattle.maptree.specs.Entries.{Entries, Nothing, Inside, with_block, values, blocks, last_block, vertices}
 use Rattle.mapdefs.specs.Outcome.{and_then}
 use Rattle.maptree.specs.Name.{is_taken}
@@ -320,7 +321,7 @@ metadata-ends own o =
 
 -- the END of a block, in drafts and by what it says
 pub same-end : (b : Block) (up own : Entries) (o : OpenBlocks) (t : TokenValue) → ends b (drafts_of (in_block b own o)) t ≡ unless_fault (closing_fault b (above b up o) own t) (drafts_of (after_end b own o))
-same-end block.Map up own o t = unless-same (map_fault (map_tree own).symbols (map_tree own).layers) (drafts_of (in_block block.Map own o))
+same-end block.Map up own o t = unless-same (map_fault (map_tree own).values (map_tree own).symbols (map_tree own).layers) (drafts_of (in_block block.Map own o))
 same-end block.Symbol up own o t =
     symbol-ends (λ symbol. record (drafts_of (in_block block.Map o.map o)) { map = record (map_tree o.map) { symbols = (map_tree o.map).symbols ++ symbol ∷ []; files = files_used o.map ++ symbol.image ∷ [] } })
     t (last (text_in text.Name) (values own)) (has_pixmap (values own)) (last (text_in text.Image) (values own))

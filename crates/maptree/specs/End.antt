@@ -18,7 +18,7 @@ use Rattle.mapwords.specs.Fault.{refused}
 use Rattle.mapdefs.specs.Outcome.{and_then}
 use Rattle.maptree.specs.Data.{table_fault, with_table}
 use Rattle.maptree.specs.Parts.{with_part}
-use Rattle.maptree.specs.Symbol.{map_fault}
+use Rattle.maptree.specs.Outline.{map_fault}
 use Rattle.maptree.specs.Draft.{new_layer, new_class, new_feature}
 use Rattle.maptree.specs.Values.{geometry_in, has_pixmap, last, text_in}
 
@@ -88,9 +88,9 @@ abbrev pub symbol_end : Drafts → TokenValue → Result Drafts Fault
 symbol_end d t = and_then (finished_symbol d.symbol t) (λ symbol.
     Ok (record d { map = record d.map { symbols = d.map.symbols ++ symbol ∷ []; files = d.map.files ++ symbol.image ∷ [] }; symbol = [] }))
 
--- at the END of MAP its styles name symbols that it has
+-- at the END of MAP its styles name symbols that it has, and where it is smoothed its labels have widths of outlines
 abbrev pub map_end : Drafts → Result Drafts Fault
-map_end d = unless_fault (map_fault d.map.symbols d.map.layers) d
+map_end d = unless_fault (map_fault d.map.values d.map.symbols d.map.layers) d
 
 -- what the END of a block does: the parent has the block, and the next one of the kind begins anew
 abbrev pub ends : Block → Drafts → TokenValue → Result Drafts Fault

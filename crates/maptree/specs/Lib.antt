@@ -5,6 +5,7 @@ pub mod End
 pub mod Entries
 pub mod Meaning
 pub mod Name
+pub mod Outline
 pub mod Parts
 pub mod Pass
 pub mod Says

@@ -22,7 +22,8 @@ use Rattle.maptree.specs.Name.{is_taken}
 use Rattle.mapwords.specs.Setting.{pair_expects}
 use Rattle.mapwords.specs.Keyword.{keyword_at, is_end}
 use Rattle.mapwords.specs.Table.{role_of}
-use Rattle.maptree.specs.Symbol.{symbol_fault, map_fault}
+use Rattle.maptree.specs.Outline.{map_fault}
+use Rattle.maptree.specs.Symbol.{symbol_fault}
 use Rattle.mapwords.specs.Value.{is_value, coordinate_in}
 use Rattle.maptree.specs.Tree.{map_tree}
 use Rattle.maptree.specs.Values.{geometry_in, has_pixmap, last, text_in}
@@ -43,7 +44,7 @@ layer_end_fault _ _ table earlier t = Some (fault_of MissingValue t)
 
 -- what is wrong at the END of a block, by what its parent says before it and what it says itself
 abbrev pub closing_fault : Block → Entries → Entries → TokenValue → Option Fault
-closing_fault block.Map above own t = map_fault (map_tree own).symbols (map_tree own).layers
+closing_fault block.Map above own t = map_fault (map_tree own).values (map_tree own).symbols (map_tree own).layers
 closing_fault block.Symbol above own t =
     symbol_fault (last (text_in text.Name) (values own)) (has_pixmap (values own)) (last (text_in text.Image) (values own)) t
 closing_fault block.Layer above own t =

@@ -56,5 +56,5 @@ abbrev pub layer_fault : List SymbolTree → LayerTree → Option Fault
 layer_fault symbols layer = first_fault (class_fault symbols) layer.body.classes
 
 -- the first of a map's styles that does, in the order of the mapfile
-abbrev pub map_fault : List SymbolTree → List LayerTree → Option Fault
-map_fault symbols layers = first_fault (layer_fault symbols) layers
+abbrev pub symbols_fault : List SymbolTree → List LayerTree → Option Fault
+symbols_fault symbols layers = first_fault (layer_fault symbols) layers

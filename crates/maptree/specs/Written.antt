@@ -8,7 +8,7 @@ use Rattle.geom.specs.Written.{written}
 use Rattle.mapdefs.specs.declared.colour.Rgb.{Rgb}
 use Rattle.mapdefs.specs.declared.layer.Geometry.{Geometry}
 use Rattle.mapdefs.specs.declared.layer.Geometry.TheVariants.{Point, Line, Polygon}
-use Rattle.mapdefs.specs.declared.limits.TheConstants.{MAX_VERTICES, MAX_LINE_WIDTH, MAX_SQUARE, MAX_TOLERANCE, MAX_PRIORITY, MAX_BUFFER, MAX_DISTANCE, MAX_ITEMS}
+use Rattle.mapdefs.specs.declared.limits.TheConstants.{MAX_VERTICES, MAX_LINE_WIDTH, MAX_SQUARE, MAX_TOLERANCE, MAX_PRIORITY, MAX_BUFFER, MAX_DISTANCE, MAX_OUTLINE_WIDTH, MAX_ITEMS}
 use Rattle.mapdefs.specs.declared.class.Rule.TheVariants.{Equals, OneOf}
 use Rattle.mapdefs.specs.declared.label.Position.{Position}
 use Rattle.mapdefs.specs.declared.label.Position.TheVariants.{UpperLeft, UpperCentre, UpperRight, CentreLeft, Centre, CentreRight, LowerLeft, LowerCentre, LowerRight, Automatic}
@@ -142,6 +142,7 @@ pub data IsKeyword : Block → List ℕ → Expected → Type 0 where
   label_buffer : IsKeyword block.Label (codes "BUFFER") (expected.Count counts.Buffer)
   label_distance : IsKeyword block.Label (codes "MINDISTANCE") (expected.Count counts.MinDistance)
   label_partials : IsKeyword block.Label (codes "PARTIALS") (expected.Flag flags.Partials)
+  label_outline_width : IsKeyword block.Label (codes "OUTLINEWIDTH") (expected.Text texts.OutlineWidth)
   label_force : IsKeyword block.Label (codes "FORCE") (expected.Flag flags.Force)
   feature_text : IsKeyword block.Feature (codes "TEXT") (expected.Text texts.Text)
   feature_items : IsKeyword block.Feature (codes "ITEMS") (expected.Text texts.Items)
@@ -164,6 +165,7 @@ least_count counts.Priority = 1
 least_count counts.Buffer = 0
 least_count counts.MinDistance = 0
 least_count counts.Smoothing = 1
+least_count counts.OutlineWidth = 1
 
 -- and the greatest
 abbrev pub most_count : CountKeyword → ℕ
@@ -174,6 +176,7 @@ most_count counts.Priority = MAX_PRIORITY
 most_count counts.Buffer = MAX_BUFFER
 most_count counts.MinDistance = MAX_DISTANCE
 most_count counts.Smoothing = 4
+most_count counts.OutlineWidth = MAX_OUTLINE_WIDTH
 
 -- a count that a keyword takes
 pub record IsCount (keyword : CountKeyword) (n : ℕ) : Type 0 where

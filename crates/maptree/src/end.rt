@@ -9,7 +9,8 @@ ghost use Rattle.maptree.specs.Name.{is_taken};
 ghost use Rattle.maptree.specs.Values.{geometry_in, last, text_in};
 
 use crate::draft::{Drafts, FeatureDraft};
-use crate::symbol::map_fault;
+use crate::outline::map_fault;
+use crate::symbol::symbols_fault;
 use crate::tree::{ClassTree, FeatureTree, LayerBody, LayerTree, SymbolTree};
 use crate::values::Values;
 use mapdefs::{Duplicate, Geometry, Items};
@@ -140,16 +141,21 @@ impl Drafts {
         Ok(())
     }
 
-    // Ends MAP: each symbol that a style names has to be there.
+    // Ends MAP: each symbol that a style names has to be there, and in a smoothed map the outlines of labels have widths.
     fn end_map(&self) -> Result<(), Fault>
         ensures { MatchResult result
             (λ _. map_end self.now ≡ Ok self.now)
             (λ fault. map_end self.now ≡ Err fault) }
     {
-        match map_fault(self.map.symbols.as_slice(), self.map.layers.as_slice()) {
+        match map_fault(&self.map) {
             None => Ok(()),
             Some(fault) => Err(fault),
         }
+    }
+
+    // Whether a style names a symbol that the map doesn't have.
+    fn lacks_symbol(&self) -> bool {
+        symbols_fault(self.map.symbols.as_slice(), self.map.layers.as_slice()).is_some()
     }
 
     // Ends a CLASS: the layer gets it.
@@ -239,11 +245,12 @@ impl Drafts {
         Ok(())
     }
 
-    /// The first part that the open block lacks of those that its END requires, as its keyword or in a word. It is
-    /// `None` where it lacks nothing.
+    /// The first part that the open block lacks of those that its END requires, as its keyword or in a word, for MAP a SYMBOL
+    /// that a style names. It is `None` where it lacks nothing.
     pub fn missing_part(&self, block: Block) -> Option<&'static str> {
         let layer = &self.layer.values;
         match block {
+            Block::Map if self.lacks_symbol() => Some("SYMBOL"),
             Block::Symbol if self.symbol.text(TextKeyword::Name).is_none() => Some("NAME"),
             Block::Symbol if !self.symbol.has_pixmap() => Some("TYPE"),
             Block::Symbol if self.symbol.text(TextKeyword::Image).is_none() => Some("IMAGE"),

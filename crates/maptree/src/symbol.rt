@@ -1,5 +1,5 @@
 ghost use Rattle.std.specs.Prelude.{◌≡◌, option_map};
-ghost use Rattle.maptree.specs.Symbol.{has_symbol, named_fault, symbol_of, style_fault, class_fault, layer_fault, map_fault};
+ghost use Rattle.maptree.specs.Symbol.{has_symbol, named_fault, symbol_of, style_fault, class_fault, layer_fault, symbols_fault};
 
 use crate::tree::{ClassTree, LayerTree, SymbolTree};
 use crate::values::Values;
@@ -63,8 +63,8 @@ fn layer_fault(symbols: &[SymbolTree], layer: &LayerTree) -> Option<Fault>
 
 /// The fault of the first style, in the order of the mapfile, that names a symbol which the map doesn't
 /// have.
-pub fn map_fault(symbols: &[SymbolTree], layers: &[LayerTree]) -> Option<Fault>
-    ensures { result ≡ map_fault symbols.now layers.now }
+pub fn symbols_fault(symbols: &[SymbolTree], layers: &[LayerTree]) -> Option<Fault>
+    ensures { result ≡ symbols_fault symbols.now layers.now }
 {
     for layer in layers {
         if let Some(fault) = layer_fault(symbols, layer) {

@@ -1,7 +1,7 @@
 -- The keywords of each block, and the bounds of counts (docs/MAPFILE.md, "Blocks and words" and "Numbers").
 use Rattle.std.specs.Prelude.{ℕ, Option, None, Some}
 use Rattle.geom.specs.declared.factor.TheConstants.{MAX_FACTOR}
-use Rattle.mapdefs.specs.declared.limits.TheConstants.{MAX_LINE_WIDTH, MAX_SQUARE, MAX_TOLERANCE, MAX_PRIORITY, MAX_BUFFER, MAX_DISTANCE}
+use Rattle.mapdefs.specs.declared.limits.TheConstants.{MAX_LINE_WIDTH, MAX_SQUARE, MAX_TOLERANCE, MAX_PRIORITY, MAX_BUFFER, MAX_DISTANCE, MAX_OUTLINE_WIDTH}
 use Rattle.mapwords.specs.declared.role.Block.{Block}
 use Rattle.mapwords.specs.declared.role.Block.TheVariants as block
 use Rattle.mapwords.specs.declared.role.Expected.TheVariants as expected
@@ -39,6 +39,7 @@ text_number text.Symbol = 12
 text_number text.LabelFont = 13
 text_number text.Text = 14
 text_number text.Items = 15
+text_number text.OutlineWidth = 16
 
 -- for each that takes a count
 abbrev pub count_number : CountKeyword → ℕ
@@ -49,6 +50,7 @@ count_number count.Priority = 3
 count_number count.Buffer = 4
 count_number count.MinDistance = 5
 count_number count.Smoothing = 6
+count_number count.OutlineWidth = 7
 
 -- for each that takes TRUE or FALSE, and for what a CONFIG offers
 abbrev pub flag_number : FlagKeyword → ℕ
@@ -77,6 +79,7 @@ least_of count.Priority = 1
 least_of count.Buffer = 0
 least_of count.MinDistance = 0
 least_of count.Smoothing = 1
+least_of count.OutlineWidth = 1
 
 -- and the greatest
 abbrev pub most_of : CountKeyword → ℕ
@@ -87,6 +90,7 @@ most_of count.Priority = MAX_PRIORITY
 most_of count.Buffer = MAX_BUFFER
 most_of count.MinDistance = MAX_DISTANCE
 most_of count.Smoothing = MAX_FACTOR
+most_of count.OutlineWidth = MAX_OUTLINE_WIDTH
 
 -- the keywords of MAP
 abbrev pub map_role : Keyword → Option Role
@@ -226,7 +230,7 @@ label_role keyword.GeometryType = Some (Takes (expected.Unused 0))
 label_role keyword.MaxSize = Some (Takes (expected.Unused 0))
 label_role keyword.MinFeatureSize = Some (Takes (expected.Unused 0))
 label_role keyword.MinSize = Some (Takes (expected.Unused 0))
-label_role keyword.OutlineWidth = Some (Takes (expected.Unused 0))
+label_role keyword.OutlineWidth = Some (Takes (expected.Text text.OutlineWidth))
 label_role keyword.RepeatDistance = Some (Takes (expected.Unused 0))
 label_role keyword.Size = Some (Takes (expected.Unused 0))
 label_role keyword.Offset = Some (Takes (expected.Unused 1))

@@ -4,7 +4,10 @@ ghost use Rattle.mapwords.specs.Table.{least_of, most_of, text_number, count_num
 use crate::keyword::Keyword;
 use crate::role::{Block, Expected, Role};
 use geom::MAX_FACTOR;
-use mapdefs::{MAX_BUFFER, MAX_DISTANCE, MAX_LINE_WIDTH, MAX_PRIORITY, MAX_SQUARE, MAX_TOLERANCE};
+use mapdefs::{
+    MAX_BUFFER, MAX_DISTANCE, MAX_LINE_WIDTH, MAX_OUTLINE_WIDTH, MAX_PRIORITY, MAX_SQUARE,
+    MAX_TOLERANCE,
+};
 
 /// The keywords that take a text, and the keys of METADATA, CONFIG and PROCESSING that do.
 #[derive(Clone, Copy)]
@@ -32,6 +35,8 @@ pub enum TextKeyword {
     LabelFont,
     Text,
     Items,
+    /// The width of a label's outline, which only a smoothed map judges.
+    OutlineWidth,
 }
 
 /// The keywords that take a count, and the key of CONFIG that does.
@@ -51,6 +56,8 @@ pub enum CountKeyword {
     MinDistance,
     /// How many times as fine the pictures are of which a map's pictures are the means.
     Smoothing,
+    /// The width of a label's outline in a smoothed map, in pixels.
+    OutlineWidth,
 }
 
 /// The keywords that take TRUE or FALSE, and what a CONFIG offers or doesn't.
@@ -112,7 +119,8 @@ impl CountKeyword {
             CountKeyword::Width
             | CountKeyword::Size
             | CountKeyword::Priority
-            | CountKeyword::Smoothing => 1,
+            | CountKeyword::Smoothing
+            | CountKeyword::OutlineWidth => 1,
             CountKeyword::Tolerance | CountKeyword::Buffer | CountKeyword::MinDistance => 0,
         }
     }
@@ -129,6 +137,7 @@ impl CountKeyword {
             CountKeyword::Buffer => MAX_BUFFER.into(),
             CountKeyword::MinDistance => MAX_DISTANCE,
             CountKeyword::Smoothing => MAX_FACTOR.into(),
+            CountKeyword::OutlineWidth => MAX_OUTLINE_WIDTH.into(),
         }
     }
 }
@@ -326,6 +335,7 @@ fn label_role(keyword: Keyword) -> Option<Role>
         Keyword::MinDistance => Some(Role::Takes(Expected::Count(CountKeyword::MinDistance))),
         Keyword::Partials => Some(Role::Takes(Expected::Flag(FlagKeyword::Partials))),
         Keyword::Force => Some(Role::Takes(Expected::Flag(FlagKeyword::Force))),
+        Keyword::OutlineWidth => Some(Role::Takes(Expected::Text(TextKeyword::OutlineWidth))),
         Keyword::Antialias
         | Keyword::Encoding
         | Keyword::Font
@@ -333,7 +343,6 @@ fn label_role(keyword: Keyword) -> Option<Role>
         | Keyword::MaxSize
         | Keyword::MinFeatureSize
         | Keyword::MinSize
-        | Keyword::OutlineWidth
         | Keyword::RepeatDistance
         | Keyword::Size => Some(Role::Takes(Expected::Unused(0))),
         Keyword::Offset => Some(Role::Takes(Expected::Unused(1))),

@@ -5,7 +5,7 @@ use lib.IntN.{ℤ, ◌+ℤ◌}
 use Rattle.bdffont.specs.Ink.{has_ink}
 use Rattle.geom.specs.Device.{PixelValue}
 use Rattle.mapdefs.specs.declared.font.FontFields.{FontFields}
-use Rattle.labelink.specs.Ink.{neighbours}
+use Rattle.labelink.specs.Ink.{steps_of}
 use Rattle.labelink.proofs.Inked.{any-same, ink-moved}
 use Rattle.moves.specs.Laws.{InkMoves, OutlinesMove}
 use Rattle.moves.specs.Moves.{pixel_from}
@@ -25,7 +25,7 @@ regroup : (a b c : ℤ) → a +ℤ (b +ℤ c) ≡ (a +ℤ b) +ℤ c
 regroup a b c = omega (arith, ints)
 
 pub outlines-move : OutlinesMove
-outlines-move c font characters at i j =
-    any-same (λ step. has_ink font characters (pixel_from c at) (i +ℤ step.i) (j +ℤ step.j)) (λ step. has_ink font characters at ((c.i +ℤ i) +ℤ step.i) ((c.j +ℤ j) +ℤ step.j)) neighbours
+outlines-move c reach font characters at i j =
+    any-same (λ step. has_ink font characters (pixel_from c at) (i +ℤ step.i) (j +ℤ step.j)) (λ step. has_ink font characters at ((c.i +ℤ i) +ℤ step.i) ((c.j +ℤ j) +ℤ step.j)) (steps_of reach)
     (λ step. ink-moves c font characters at (i +ℤ step.i) (j +ℤ step.j)
     ∙ ink-at font characters at (c.i +ℤ (i +ℤ step.i)) (c.j +ℤ (j +ℤ step.j)) ((c.i +ℤ i) +ℤ step.i) ((c.j +ℤ j) +ℤ step.j) (regroup c.i i step.i) (regroup c.j j step.j))

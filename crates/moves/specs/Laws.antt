@@ -5,6 +5,7 @@ use Rattle.bdffont.specs.Ink.{has_ink}
 use Rattle.geom.specs.Device.{DevicePoint, PixelValue, pixel_centre, pixel_of}
 use Rattle.geom.specs.EvenOdd.{is_inside}
 use Rattle.labelink.specs.Ink.{has_outline}
+use Rattle.labelink.specs.declared.reach.Reach.{Reach}
 use Rattle.mapdefs.specs.declared.font.FontFields.{FontFields}
 use Rattle.strokes.specs.Line.{LineValue, line_of}
 use Rattle.strokes.specs.Line as line
@@ -64,5 +65,5 @@ InkMoves = (corner : PixelValue) (font : FontFields) (characters : List ℕ) (at
     IsFrom corner (has_ink font characters (pixel_from corner at)) (has_ink font characters at)
 
 abbrev pub OutlinesMove : Type 0
-OutlinesMove = (corner : PixelValue) (font : FontFields) (characters : List ℕ) (at : PixelValue) →
-    IsFrom corner (has_outline font characters (pixel_from corner at)) (has_outline font characters at)
+OutlinesMove = (corner : PixelValue) (reach : Reach) (font : FontFields) (characters : List ℕ) (at : PixelValue) →
+    IsFrom corner (has_outline reach font characters (pixel_from corner at)) (has_outline reach font characters at)

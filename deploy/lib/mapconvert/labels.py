@@ -101,6 +101,8 @@ class Labels:
         label, place = given.getLabel(0), self.place(number, "LABEL", 0)
         lines = [f"COLOR {colour_of(label.color) or '-1 -1 -1'}"]
         lines += [f"OUTLINECOLOR {colour_of(label.outlinecolor)}"] if colour_of(label.outlinecolor) else []
+        if len(lines) == 2 and round(label.outlinewidth) > 1:
+            lines.append(f"OUTLINEWIDTH {min(round(label.outlinewidth), 8)}")
         position = POSITIONS.get(label.position)
         if position is None:
             self.report.changed(place, "POSITION is AUTO")

@@ -1,6 +1,5 @@
-use Rattle.compose.proofs.Reaching.{unseen-painted}
+use Rattle.canvas.proofs.Painting.{painted-none}
 use Rattle.compose.proofs.block.paint_shown.Goals as goal
 
-pub returns-then-not-may_show : goal.returns-then-not-may_show
-returns-then-not-may_show c =
-    unseen-painted c.args.font.now c.args.labels.now c.args.label c.args.canvas.now c.width.ensures.area (rw (c.width.ensures.value, c.height.ensures) at (c.may_show.ensures c.if-not-may_show.true))
+pub returns-in-None : goal.returns-in-None
+returns-in-None c = rw c.in-None.ensures (painted-none c.args.canvas.now)
