@@ -9,6 +9,8 @@ mod boxes_in_windows;
 #[cfg(test)]
 mod clipped_edges;
 #[cfg(test)]
+mod discs;
+#[cfg(test)]
 mod edges;
 #[cfg(test)]
 mod filled_rows;

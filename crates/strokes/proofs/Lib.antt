@@ -1,5 +1,6 @@
 pub mod Beyond
 pub mod Chording
+pub mod Discs
 pub mod Gaps
 pub mod Keeping
 pub mod Marking

@@ -1,5 +1,7 @@
 pub mod Chord
 pub mod Columns
+pub mod Disc
+pub mod DiscLaw
 pub mod Law
 pub mod Line
 pub mod Round

@@ -1,6 +1,7 @@
 //! Laws of the definitions that the contracts cite. A law is a function without arguments whose contract
 //! states it.
 
+ghost use Rattle.strokes.specs.DiscLaw.{BordersBelongToDiscs, DiscsAreRoundPoints, DiscsAreSymmetric, HalfRingsAreDiscs};
 ghost use Rattle.strokes.specs.Law.{AreColumnsWide, AreRowsWide, FlatSegmentsFollowTheirLine, IsNothing, IsSameBack, SteepSegmentsFollowTheirLine};
 ghost use Rattle.strokes.specs.RoundLaw.{RoundLinesAreSameBack, RoundPointsAreDiscs, RoundRowsAreRuns, RoundSegmentsAreNear, RoundSegmentsAreSameBack};
 ghost use Rattle.strokes.specs.Short.{ShortSegmentsAddNothing};
@@ -67,4 +68,24 @@ pub fn round_rows()
 /// A round line along a part, open or closed, covers the same pixels from its last vertex to its first.
 pub fn round_line_back()
     ensures { RoundLinesAreSameBack }
+{}
+
+/// A disc without a hole covers what a round line covers that has one vertex, its centre.
+pub fn disc_round_point()
+    ensures { DiscsAreRoundPoints }
+{}
+
+/// Of points that are equally far from its centre a disc covers all or none.
+pub fn disc_symmetric()
+    ensures { DiscsAreSymmetric }
+{}
+
+/// The border of a disc belongs to it, and that of its hole.
+pub fn disc_border()
+    ensures { BordersBelongToDiscs }
+{}
+
+/// A ring of half the size is the whole disc.
+pub fn half_ring()
+    ensures { HalfRingsAreDiscs }
 {}

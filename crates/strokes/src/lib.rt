@@ -1,4 +1,4 @@
-//! Lines of a width, and squares: which pixels they cover, and the spans of their rows.
+//! Lines of a width, squares and discs: which pixels they cover, and the spans of their rows.
 //!
 //! Proved: `Line`, `Segment` and `Square` are covers. What `Cover::covers` and `Cover::row` say of a segment is
 //! `covers_segment`, by comparisons of products; of a square it is `covers_square`. A line covers what its
@@ -15,6 +15,11 @@
 //! and a line cover the same backwards. `RoundStep::columns` gives what it covers in a row by `Chords`, which are
 //! computed once a width.
 //!
+//! `Disc::columns` gives what a disc, or the ring in it, covers in a row, by `covers_disc`, and `Disc::rows` the rows
+//! outside of which it covers nothing. `laws::disc_round_point` states that a disc is a round line of one vertex,
+//! `laws::disc_symmetric` that it is the same in each direction, `laws::disc_border` that its borders belong to it,
+//! and `laws::half_ring` that a ring of half the size is the whole disc.
+//!
 //! Terms: a *segment* joins two vertices of a line. It is *steep* where it goes further down than across.
 //! To *turn* a point or a segment is to exchange across and down: what a steep segment covers row by row, a
 //! flat one covers column by column. A segment is *short* where its ends lie in pixels of one column or one row,
@@ -23,6 +28,7 @@
 
 mod chords;
 mod columns;
+mod disc;
 mod distance;
 pub mod laws;
 mod line;
@@ -40,6 +46,7 @@ mod steps;
 mod strip;
 
 pub use chords::Chords;
+pub use disc::Disc;
 pub use line::Line;
 pub use neighbours::are_neighbours;
 pub use round::RoundSegment;

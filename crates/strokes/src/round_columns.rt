@@ -4,7 +4,7 @@ ghost use Rattle.geom.specs.Range.{IsBelow};
 ghost use Rattle.geom.specs.declared.side.TheConstants.{MAX_PICTURE_SIDE};
 ghost use Rattle.mapdefs.specs.declared.limits.TheConstants.{MAX_FINE_WIDTH};
 ghost use Rattle.scanfill.specs.Runs.{has_column};
-ghost use Rattle.strokes.specs.Round.{is_about, is_abreast, is_round, joined};
+ghost use Rattle.strokes.specs.Round.{apart, is_about, is_abreast, is_round, joined};
 
 use crate::columns::kept;
 use crate::distance::{across, along, apart, minus_wide};
@@ -49,8 +49,18 @@ pub fn disc_columns(width: u8, point: Device, row: u16, end: u16) -> Span
     ensures all { (i : ℕ) → i < end → has_column result i ≡ is_round width point (pixel_centre (pos i) (pos row)) }
     ensures within { result.to ≤ end }
 {
+    columns_within(square_of_half(width), point, row, end)
+}
+
+/// The columns of a row, of so many, whose centres are so near to a point that the square of their distance is at most a limit.
+pub fn columns_within(limit: i64, point: Device, row: u16, end: u16) -> Span
+    requires limit { IsBelow (2 ^ 27) limit }
+    requires row { row < MAX_PICTURE_SIDE }
+    ensures all { (i : ℕ) → i < end → has_column result i ≡ int_le (apart point (pixel_centre (pos i) (pos row))) limit }
+    ensures within { result.to ≤ end }
+{
     let down = difference(row_centre(row), point.y());
-    let left = i128::from(square_of_half(width)) - product(down, down);
+    let left = i128::from(limit) - product(down, down);
     if left < 0 {
         return Span { from: 0, to: 0 };
     }

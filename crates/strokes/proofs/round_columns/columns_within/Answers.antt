@@ -7,24 +7,24 @@ use Rattle.geom.specs.Device.{centre}
 use Rattle.geom.specs.Range.{IsBelow}
 use Rattle.geom.proofs.Products.{lt_of}
 use Rattle.scanfill.proofs.Words.{below-more, word}
-use Rattle.strokes.specs.Round.{IsRoot, square, square_of_half}
+use Rattle.strokes.specs.Round.{IsRoot, square}
 use Rattle.strokes.proofs.Rounded.{below-less, below-sum, chord, difference-is, fits-less, fits-more, no-chord, no-columns, word-less, word-more}
 use Rattle.strokes.proofs.Squares.{square-nonneg}
-use Rattle.strokes.proofs.round_columns.disc_columns.Goals as goal
+use Rattle.strokes.proofs.round_columns.columns_within.Goals as goal
 
--- what is left of the square of half the width
-left-is : (h p a b : ℤ) → h ≡ a → p ≡ b → IsBelow (2 ^ 21) h → IsBelow (2 ^ 96) p →
+-- what is left of the limit
+left-is : (h p a b : ℤ) → h ≡ a → p ≡ b → IsBelow (2 ^ 27) h → IsBelow (2 ^ 96) p →
     to_z w128 (of_z w128 (to_z w128 (of_z w128 h) -ℤ to_z w128 (of_z w128 p))) ≡ a -ℤ b
-left-is h p a b e f g k = difference-is h p (below-more (2 ^ 21) (2 ^ 98) h (omega arith) g) (below-more (2 ^ 96) (2 ^ 98) p (omega arith) k) ∙ rw (e, f)
+left-is h p a b e f g k = difference-is h p (below-more (2 ^ 27) (2 ^ 98) h (omega arith) g) (below-more (2 ^ 96) (2 ^ 98) p (omega arith) k) ∙ rw (e, f)
 
 down-is : (d c y r : ℤ) → r ≡ c → d ≡ to_z w64 (of_z w64 r) -ℤ to_z w64 (of_z w64 y) → IsBelow (2 ^ 47) r → IsBelow (2 ^ 47) y → d ≡ c -ℤ y
 down-is d c y r e f p q = f ∙ rw (word (2 ^ 47) r (omega arith) p, word (2 ^ 47) y (omega arith) q, e)
 
-half-is : (a b w : ℤ) → a ≡ to_z w64 (of_z w64 b) → IsBelow (2 ^ 21) b → b ≡ w → a ≡ w
-half-is a b w e h f = e ∙ (word (2 ^ 21) b (omega arith) h ∙ f)
+limit-is : (a b : ℤ) → a ≡ to_z w64 (of_z w64 b) → IsBelow (2 ^ 27) b → a ≡ b
+limit-is a b e h = e ∙ word (2 ^ 27) b (omega arith) h
 
-half-size : (a b : ℤ) → a ≡ to_z w64 (of_z w64 b) → IsBelow (2 ^ 21) b → IsBelow (2 ^ 21) a
-half-size a b e h = rw (e, word (2 ^ 21) b (omega arith) h) h
+limit-size : (a b : ℤ) → a ≡ to_z w64 (of_z w64 b) → IsBelow (2 ^ 27) b → IsBelow (2 ^ 27) a
+limit-size a b e h = rw (e, word (2 ^ 27) b (omega arith) h) h
 
 product-is : (p d c : ℤ) → p ≡ to_z w64 (of_z w64 d) *ℤ to_z w64 (of_z w64 d) → IsBelow (2 ^ 48) d → d ≡ c → p ≡ square c
 product-is p d c e h f = e ∙ rw (word (2 ^ 48) d (omega arith) h, f)
@@ -34,17 +34,17 @@ returns-then-left-lt0-clause-all c = λ i less.
     let y = c.args.point.y in
     let down : c.difference-down.result ≡ centre (pos c.args.row) -ℤ y = down-is c.difference-down.result (centre (pos c.args.row)) y c.row_centre.result c.row_centre.ensures.value
     (rw c.y.ensures.value at c.difference-down.ensures.value) c.row_centre.ensures.range c.y.ensures.limits.down in
-    let half = half-is c.from.result c.square_of_half.result (square_of_half c.args.width) c.from.ensures c.square_of_half.ensures.range c.square_of_half.ensures.value in
+    let half = limit-is c.from.result c.args.limit c.from.ensures c.requires.limit in
     let away = product-is c.product.result c.difference-down.result (centre (pos c.args.row) -ℤ y) c.product.ensures.value c.difference-down.ensures.range down in
-    let left = left-is c.from.result c.product.result (square_of_half c.args.width) (square (centre (pos c.args.row) -ℤ y)) half away
-    (half-size c.from.result c.square_of_half.result c.from.ensures c.square_of_half.ensures.range) c.product.ensures.range in
-    no-columns i ∙ sym (no-chord (square_of_half c.args.width) (square (centre (pos c.args.row) -ℤ y)) (square (centre (pos i) -ℤ c.args.point.x))
-    (lt_of (square_of_half c.args.width -ℤ square (centre (pos c.args.row) -ℤ y)) (pos 0) (rw left at c.if-left-lt0.true)) (square-nonneg (centre (pos i) -ℤ c.args.point.x)))
+    let left = left-is c.from.result c.product.result c.args.limit (square (centre (pos c.args.row) -ℤ y)) half away
+    (limit-size c.from.result c.args.limit c.from.ensures c.requires.limit) c.product.ensures.range in
+    no-columns i ∙ sym (no-chord c.args.limit (square (centre (pos c.args.row) -ℤ y)) (square (centre (pos i) -ℤ c.args.point.x))
+    (lt_of (c.args.limit -ℤ square (centre (pos c.args.row) -ℤ y)) (pos 0) (rw left at c.if-left-lt0.true)) (square-nonneg (centre (pos i) -ℤ c.args.point.x)))
 
 pub root-half-requires-clause-range : goal.root-half-requires-clause-range
 root-half-requires-clause-range c =
-    let h = half-size c.from.result c.square_of_half.result c.from.ensures c.square_of_half.ensures.range in
-    rw (difference-is c.from.result c.product.result (below-more (2 ^ 21) (2 ^ 98) c.from.result (omega arith) h) (below-more (2 ^ 96) (2 ^ 98) c.product.result (omega arith) c.product.ensures.range))
+    let h = limit-size c.from.result c.args.limit c.from.ensures c.requires.limit in
+    rw (difference-is c.from.result c.product.result (below-more (2 ^ 27) (2 ^ 98) c.from.result (omega arith) h) (below-more (2 ^ 96) (2 ^ 98) c.product.result (omega arith) c.product.ensures.range))
     (record { above = omega (arith, ints, h, c.product.ensures.range); below = omega (arith, ints, h, c.product.ensures.range) })
 
 pub returns-clause-all : goal.returns-clause-all
@@ -53,17 +53,17 @@ returns-clause-all c = λ i less.
     let y = c.args.point.y in
     let down : c.difference-down.result ≡ centre (pos c.args.row) -ℤ y = down-is c.difference-down.result (centre (pos c.args.row)) y c.row_centre.result c.row_centre.ensures.value
     (rw c.y.ensures.value at c.difference-down.ensures.value) c.row_centre.ensures.range c.y.ensures.limits.down in
-    let half = half-is c.from.result c.square_of_half.result (square_of_half c.args.width) c.from.ensures c.square_of_half.ensures.range c.square_of_half.ensures.value in
+    let half = limit-is c.from.result c.args.limit c.from.ensures c.requires.limit in
     let away = product-is c.product.result c.difference-down.result (centre (pos c.args.row) -ℤ y) c.product.ensures.value c.difference-down.ensures.range down in
-    let left = left-is c.from.result c.product.result (square_of_half c.args.width) (square (centre (pos c.args.row) -ℤ y)) half away
-    (half-size c.from.result c.square_of_half.result c.from.ensures c.square_of_half.ensures.range) c.product.ensures.range in
-    let root : IsRoot (square_of_half c.args.width -ℤ square (centre (pos c.args.row) -ℤ y)) c.root-half.result = rw left at c.root-half.ensures.root in
+    let left = left-is c.from.result c.product.result c.args.limit (square (centre (pos c.args.row) -ℤ y)) half away
+    (limit-size c.from.result c.args.limit c.from.ensures c.requires.limit) c.product.ensures.range in
+    let root : IsRoot (c.args.limit -ℤ square (centre (pos c.args.row) -ℤ y)) c.root-half.result = rw left at c.root-half.ensures.root in
     let side = below-more (2 ^ 47) (2 ^ 61) x (omega arith) c.x-x.ensures.limits.across in
     rw (
       c.x-x.ensures.value,
       word-less x c.root-half.result side c.root-half.ensures.range,
       word-more x c.root-half.result side c.root-half.ensures.range,
-      chord (square_of_half c.args.width) (square (centre (pos c.args.row) -ℤ y)) x c.root-half.result (centre (pos i)) root,
+      chord c.args.limit (square (centre (pos c.args.row) -ℤ y)) x c.root-half.result (centre (pos i)) root,
     ) at (c.centres_between.ensures.all i less)
 
 pub overflow_sub-x : goal.overflow_sub-x
