@@ -15,6 +15,16 @@ pub fn root(n: i128) -> i64
     n.unsigned_abs().isqrt() as i64
 }
 
+/// The square root of a number below 2^27, rounded down: by words of 32 bits, since it is taken for each row of a disc.
+pub fn short_root(n: i128) -> i64
+    requires least { pos 0 ≤ℤ n }
+    requires range { IsBelow (2 ^ 27) n }
+    ensures root { IsRoot n result }
+    ensures range { IsBelow (2 ^ 61) result }
+{
+    i64::from((n as u32).isqrt())
+}
+
 /// Half a width, in sixteenths of a pixel.
 pub fn half(width: u8) -> i64
     requires { width ≤ MAX_FINE_WIDTH }

@@ -9,7 +9,7 @@ ghost use Rattle.strokes.specs.Round.{apart, is_about, is_abreast, is_round, joi
 use crate::columns::kept;
 use crate::distance::{across, along, apart, minus_wide};
 use crate::number::{difference, opposite, product, step};
-use crate::root::{half, root, square_of_half};
+use crate::root::{half, short_root, square_of_half};
 use geom::{Device, row_centre};
 use scanfill::Span;
 
@@ -64,7 +64,7 @@ pub fn columns_within(limit: i64, point: Device, row: u16, end: u16) -> Span
     if left < 0 {
         return Span { from: 0, to: 0 };
     }
-    let (x, half) = (point.x(), root(left));
+    let (x, half) = (point.x(), short_root(left));
     centres_between(x - half, x + half, end)
 }
 

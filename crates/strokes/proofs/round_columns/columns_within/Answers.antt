@@ -1,6 +1,8 @@
-use Rattle.std.proofs.Common.{◌≡◌, ◌∙◌, ◌^◌, sym, arith}
+use Rattle.std.proofs.Common.{◌≡◌, ◌∙◌, ◌^◌, false, sym, arith}
 use Rattle.std.proofs.lemmas.Int.{ints}
+use Rattle.std.specs.Prelude.{int_lt}
 use lib.IntN.{ℤ, pos, ◌-ℤ◌, ◌*ℤ◌}
+use lib.Signed.{◌≤ℤ◌}
 use mir.Syntax.{w64, w128}
 use mir.Val.{to_z, of_z}
 use Rattle.geom.specs.Device.{centre}
@@ -26,6 +28,10 @@ limit-is a b e h = e ∙ word (2 ^ 27) b (omega arith) h
 limit-size : (a b : ℤ) → a ≡ to_z w64 (of_z w64 b) → IsBelow (2 ^ 27) b → IsBelow (2 ^ 27) a
 limit-size a b e h = rw (e, word (2 ^ 27) b (omega arith) h) h
 
+-- where something is left it is no more than the limit
+left-size : (z a b : ℤ) → z ≡ a -ℤ b → int_lt z (pos 0) ≡ false → IsBelow (2 ^ 27) a → pos 0 ≤ℤ b → IsBelow (2 ^ 27) z
+left-size z a b e none h p = record { above = omega (arith, ints, none); below = omega (arith, ints, e, h, p) }
+
 product-is : (p d c : ℤ) → p ≡ to_z w64 (of_z w64 d) *ℤ to_z w64 (of_z w64 d) → IsBelow (2 ^ 48) d → d ≡ c → p ≡ square c
 product-is p d c e h f = e ∙ rw (word (2 ^ 48) d (omega arith) h, f)
 
@@ -41,11 +47,12 @@ returns-then-left-lt0-clause-all c = λ i less.
     no-columns i ∙ sym (no-chord c.args.limit (square (centre (pos c.args.row) -ℤ y)) (square (centre (pos i) -ℤ c.args.point.x))
     (lt_of (c.args.limit -ℤ square (centre (pos c.args.row) -ℤ y)) (pos 0) (rw left at c.if-left-lt0.true)) (square-nonneg (centre (pos i) -ℤ c.args.point.x)))
 
-pub root-half-requires-clause-range : goal.root-half-requires-clause-range
-root-half-requires-clause-range c =
+pub short_root-half-requires-clause-range : goal.short_root-half-requires-clause-range
+short_root-half-requires-clause-range c =
     let h = limit-size c.from.result c.args.limit c.from.ensures c.requires.limit in
-    rw (difference-is c.from.result c.product.result (below-more (2 ^ 27) (2 ^ 98) c.from.result (omega arith) h) (below-more (2 ^ 96) (2 ^ 98) c.product.result (omega arith) c.product.ensures.range))
-    (record { above = omega (arith, ints, h, c.product.ensures.range); below = omega (arith, ints, h, c.product.ensures.range) })
+    let nonneg : pos 0 ≤ℤ c.product.result = rw c.product.ensures.value (square-nonneg (to_z w64 (of_z w64 c.difference-down.result))) in
+    let is = difference-is c.from.result c.product.result (below-more (2 ^ 27) (2 ^ 98) c.from.result (omega arith) h) (below-more (2 ^ 96) (2 ^ 98) c.product.result (omega arith) c.product.ensures.range) in
+    left-size (to_z w128 (of_z w128 (to_z w128 (of_z w128 c.from.result) -ℤ to_z w128 (of_z w128 c.product.result)))) c.from.result c.product.result is c.if-left-lt0.false h nonneg
 
 pub returns-clause-all : goal.returns-clause-all
 returns-clause-all c = λ i less.
@@ -57,31 +64,31 @@ returns-clause-all c = λ i less.
     let away = product-is c.product.result c.difference-down.result (centre (pos c.args.row) -ℤ y) c.product.ensures.value c.difference-down.ensures.range down in
     let left = left-is c.from.result c.product.result c.args.limit (square (centre (pos c.args.row) -ℤ y)) half away
     (limit-size c.from.result c.args.limit c.from.ensures c.requires.limit) c.product.ensures.range in
-    let root : IsRoot (c.args.limit -ℤ square (centre (pos c.args.row) -ℤ y)) c.root-half.result = rw left at c.root-half.ensures.root in
+    let root : IsRoot (c.args.limit -ℤ square (centre (pos c.args.row) -ℤ y)) c.short_root-half.result = rw left at c.short_root-half.ensures.root in
     let side = below-more (2 ^ 47) (2 ^ 61) x (omega arith) c.x-x.ensures.limits.across in
     rw (
       c.x-x.ensures.value,
-      word-less x c.root-half.result side c.root-half.ensures.range,
-      word-more x c.root-half.result side c.root-half.ensures.range,
-      chord c.args.limit (square (centre (pos c.args.row) -ℤ y)) x c.root-half.result (centre (pos i)) root,
+      word-less x c.short_root-half.result side c.short_root-half.ensures.range,
+      word-more x c.short_root-half.result side c.short_root-half.ensures.range,
+      chord c.args.limit (square (centre (pos c.args.row) -ℤ y)) x c.short_root-half.result (centre (pos i)) root,
     ) at (c.centres_between.ensures.all i less)
 
 pub overflow_sub-x : goal.overflow_sub-x
 overflow_sub-x c =
     let side = below-more (2 ^ 47) (2 ^ 61) c.args.point.x (omega arith) c.x-x.ensures.limits.across in
-    rw c.x-x.ensures.value (fits-less c.args.point.x c.root-half.result side c.root-half.ensures.range)
+    rw c.x-x.ensures.value (fits-less c.args.point.x c.short_root-half.result side c.short_root-half.ensures.range)
 
 pub overflow_add-x : goal.overflow_add-x
 overflow_add-x c =
     let side = below-more (2 ^ 47) (2 ^ 61) c.args.point.x (omega arith) c.x-x.ensures.limits.across in
-    rw c.x-x.ensures.value (fits-more c.args.point.x c.root-half.result side c.root-half.ensures.range)
+    rw c.x-x.ensures.value (fits-more c.args.point.x c.short_root-half.result side c.short_root-half.ensures.range)
 
 pub centres_between-requires-clause-least : goal.centres_between-requires-clause-least
 centres_between-requires-clause-least c =
     let side = below-more (2 ^ 47) (2 ^ 61) c.args.point.x (omega arith) c.x-x.ensures.limits.across in
-    rw (c.x-x.ensures.value, word-less c.args.point.x c.root-half.result side c.root-half.ensures.range) (below-less c.args.point.x c.root-half.result side c.root-half.ensures.range)
+    rw (c.x-x.ensures.value, word-less c.args.point.x c.short_root-half.result side c.short_root-half.ensures.range) (below-less c.args.point.x c.short_root-half.result side c.short_root-half.ensures.range)
 
 pub centres_between-requires-clause-most : goal.centres_between-requires-clause-most
 centres_between-requires-clause-most c =
     let side = below-more (2 ^ 47) (2 ^ 61) c.args.point.x (omega arith) c.x-x.ensures.limits.across in
-    rw (c.x-x.ensures.value, word-more c.args.point.x c.root-half.result side c.root-half.ensures.range) (below-sum c.args.point.x c.root-half.result side c.root-half.ensures.range)
+    rw (c.x-x.ensures.value, word-more c.args.point.x c.short_root-half.result side c.short_root-half.ensures.range) (below-sum c.args.point.x c.short_root-half.result side c.short_root-half.ensures.range)
