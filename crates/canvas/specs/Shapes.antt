@@ -7,7 +7,8 @@ use Rattle.labelink.specs.Ink.{has_outline}
 use Rattle.labelink.specs.declared.reach.Reach.{Reach}
 use Rattle.mapdefs.specs.declared.colour.Rgb.{Rgb}
 use Rattle.mapdefs.specs.declared.font.FontFields.{FontFields}
-use Rattle.mapdefs.specs.declared.symbol.Symbol.{Symbol}
+use Rattle.mapdefs.specs.declared.symbol.PixmapFields.{PixmapFields}
+use Rattle.strokes.specs.Disc.{DiscValue, covers_disc}
 use Rattle.strokes.specs.Line.{LineValue, line_of}
 use Rattle.strokes.specs.Line as line
 use Rattle.strokes.specs.Round.{round_line}
@@ -24,12 +25,13 @@ pub record Written : Type 0 where
   pub at : PixelValue
 
 -- a shape that is painted: rings that are filled with a colour, a line of a colour, a round line of a colour, a square of a
--- colour, or a pixmap; and the outline round all glyphs of a text, or the glyphs, in a colour
+-- colour, a disc or a ring of a colour, or a pixmap; and the outline round all glyphs of a text, or the glyphs, in a colour
 pub data PaintedShape : Type 0 where
   Fill : List (List DevicePoint) → Rgb → PaintedShape
   Stroke : LineValue → Rgb → PaintedShape
   RoundStroke : List SegmentValue → Rgb → PaintedShape
   Mark : SquareValue → Rgb → PaintedShape
+  Disc : DiscValue → Rgb → PaintedShape
   Stamped : StampValue → PaintedShape
   Outlined : Written → Reach → Rgb → PaintedShape
   Inked : Written → Rgb → PaintedShape
@@ -40,6 +42,7 @@ covers (Fill rings colour) i j = is_inside rings (pixel_centre (pos i) (pos j))
 covers (Stroke stroke colour) i j = line.covers_pixel stroke (pos i) (pos j)
 covers (RoundStroke segments colour) i j = round.covers_pixel segments (pos i) (pos j)
 covers (Mark square colour) i j = covers_square square (pos i) (pos j)
+covers (Disc disc colour) i j = covers_disc disc (pixel_centre (pos i) (pos j))
 covers (Stamped pixmap) i j = stamp.covers_pixel pixmap (pos i) (pos j)
 covers (Outlined w reach colour) i j = has_outline reach w.font w.characters w.at (pos i) (pos j)
 covers (Inked w colour) i j = has_ink w.font w.characters w.at (pos i) (pos j)
@@ -50,6 +53,7 @@ colour_in (Fill rings colour) i j = Some colour
 colour_in (Stroke stroke colour) i j = Some colour
 colour_in (RoundStroke segments colour) i j = Some colour
 colour_in (Mark square colour) i j = Some colour
+colour_in (Disc disc colour) i j = Some colour
 colour_in (Stamped pixmap) i j = pixel_at pixmap (pos i) (pos j)
 colour_in (Outlined w reach colour) i j = Some colour
 colour_in (Inked w colour) i j = Some colour
@@ -60,7 +64,7 @@ abbrev pub line_by : ℕ → List (List DevicePoint) → Bool → ℕ → Rgb �
 line_by factor parts closed width colour =
     if nat_lt 1 factor then RoundStroke (round_line parts closed (factor * width)) colour else Stroke (line_of parts closed (factor * width)) colour
 
--- rings are filled, and a line or a square painted, where there is a colour
+-- rings are filled, and a line, a square or a disc painted, where there is a colour
 abbrev pub fills : List (List DevicePoint) → Option Rgb → List PaintedShape
 fills rings None = []
 fills rings (Some colour) = Fill rings colour ∷ []
@@ -73,6 +77,10 @@ abbrev pub marks : SquareValue → Option Rgb → List PaintedShape
 marks square None = []
 marks square (Some colour) = Mark square colour ∷ []
 
--- the pixmap of a symbol round a pixel
-abbrev pub stamps : PixelValue → Symbol → List PaintedShape
-stamps pixel symbol = Stamped (record { pixmap = symbol.pixmap; pixel = pixel }) ∷ []
+abbrev pub discs : DiscValue → Option Rgb → List PaintedShape
+discs disc None = []
+discs disc (Some colour) = Disc disc colour ∷ []
+
+-- a pixmap round a pixel
+abbrev pub stamps : PixelValue → PixmapFields → List PaintedShape
+stamps pixel pixmap = Stamped (record { pixmap = pixmap; pixel = pixel }) ∷ []

@@ -22,18 +22,21 @@ use Rattle.mapdefs.specs.declared.layer.LayerFields.{LayerFields}
 use Rattle.mapdefs.specs.declared.map.MapFields.{MapFields}
 use Rattle.mapdefs.specs.declared.style.StyleFields.{StyleFields}
 use Rattle.mapdefs.specs.declared.symbol.Symbol.{Symbol}
+use Rattle.mapdefs.specs.declared.symbol.SymbolShape.{SymbolShape}
+use Rattle.mapdefs.specs.declared.symbol.SymbolShape.TheVariants as symbol
+use Rattle.strokes.specs.Disc.{DiscValue, disc_of, ring_of}
 use Rattle.strokes.specs.Line.{line_of}
 use Rattle.strokes.specs.Round.{round_line}
-use Rattle.moves.specs.Moves.{pixel_from, point_from, points_from}
+use Rattle.moves.specs.Moves.{disc_from, pixel_from, point_from, points_from}
 use Rattle.moves.proofs.Edges.{pixel-of}
 use Rattle.moves.proofs.Lines.{lines-are-moved}
 use Rattle.moves.proofs.Lists.{flat_map-each, flat_map-moved}
 use Rattle.moves.proofs.Rounds.{round_lines-are-moved}
 use Rattle.viewport.specs.View.{ViewValue, block_of, device_point, height_of, points_of, sixteenths, whole_of}
 use Rattle.viewport.specs.declared.fine.Stretch.{Stretch}
-use Rattle.canvas.specs.Shapes.{PaintedShape, Written, fills, line_by, marks, stamps, strokes}
+use Rattle.canvas.specs.Shapes.{PaintedShape, Written, discs, fills, line_by, marks, stamps, strokes}
 use Rattle.canvas.specs.Shapes as shape
-use Rattle.inking.specs.Styles.{line_shapes, point_shapes}
+use Rattle.inking.specs.Styles.{line_shapes, point_shapes, symbol_shapes}
 use Rattle.compose.specs.Blocks.{BlocksAreParts, BlocksPaintParts, BlocksPaintTheSame, IsBlockOf, PaintedBlocksAreBlocks, corner_of, label_from, shape_from, whole_colour}
 use Rattle.compose.specs.Labels.{candidate_list, candidate_shapes, ink_list, inks, label_shapes, outlines, reach_of}
 use Rattle.labelink.specs.declared.reach.Reach.{Reach}
@@ -43,7 +46,7 @@ use Rattle.canvas.proofs.Painting.{painted-area, painted-pixels}
 use Rattle.compose.proofs.MovedShapes.{colour_at-moved}
 use Rattle.mapdefs.specs.declared.picture.PictureFields.{PictureFields}
 
--- filled rings, lines, squares and stamps
+-- filled rings, lines, squares, discs and stamps
 fills-moved : (c : PixelValue) (rings : List (List DevicePoint)) (colour : Option Rgb) → fills (points_from c rings) colour ≡ map (shape_from c) (fills rings colour)
 fills-moved c rings None = refl
 fills-moved c rings (Some colour) = refl
@@ -80,21 +83,37 @@ map-each : {A B C : Type 0} (f : A → C) (h : B → C) (k : A → B) → ((x : 
 map-each f h k same [] = refl
 map-each f h k same (x ∷ xs) = rw (same x, map-each f h k same xs) refl
 
--- what a style paints round a pixel
-abbrev shapes_at : ℕ → List Symbol → StyleFields → Option ℕ → PixelValue → List PaintedShape
-shapes_at factor symbols style symbol pixel = elim symbol [
-  | Some index ↦ option_map_or (stamps pixel) (slice_get symbols index) []
-  | None ↦ marks (record { pixel = pixel; size = factor * style.size }) style.colour
+-- what a style paints round a point
+abbrev shapes_at : ℕ → List Symbol → StyleFields → Option ℕ → DevicePoint → List PaintedShape
+shapes_at factor symbols style symbol at = elim symbol [
+  | Some index ↦ option_map_or (λ (s : Symbol). symbol_shapes factor style at s.shape) (slice_get symbols index) []
+  | None ↦ marks (record { pixel = pixel_of at; size = factor * style.size }) style.colour
 ]
 
-shapes_at-moved : (c : PixelValue) (factor : ℕ) (symbols : List Symbol) (style : StyleFields) (symbol : Option ℕ) (pixel : PixelValue) →
-    shapes_at factor symbols style symbol (pixel_from c pixel) ≡ map (shape_from c) (shapes_at factor symbols style symbol pixel)
-shapes_at-moved c factor symbols style (Some index) pixel = option-moved (shape_from c) (stamps (pixel_from c pixel)) (stamps pixel) (λ s. refl) (slice_get symbols index)
-shapes_at-moved c factor symbols style None pixel = go style.colour
+discs-moved : (c : PixelValue) (d : DiscValue) (colour : Option Rgb) → discs (disc_from c d) colour ≡ map (shape_from c) (discs d colour)
+discs-moved c d None = refl
+discs-moved c d (Some colour) = refl
+
+symbol-moved : (c : PixelValue) (factor : ℕ) (style : StyleFields) (at : DevicePoint) (s : SymbolShape) →
+    symbol_shapes factor style (point_from c at) s ≡ map (shape_from c) (symbol_shapes factor style at s)
+symbol-moved c factor style at symbol.Disc =
+    let disc : DiscValue = disc_of at (factor * style.size) in
+    let ring : DiscValue = ring_of at (factor * style.size) (factor * style.width) in
+    append-moved (shape_from c) (discs (disc_from c disc) style.colour) (discs (disc_from c ring) style.outline) (discs disc style.colour) (discs ring style.outline)
+    (discs-moved c disc style.colour) (discs-moved c ring style.outline)
+symbol-moved c factor style at (symbol.Pixmap pixmap) = ap (λ (pixel : PixelValue). stamps pixel pixmap) (pixel-of c at)
+
+shapes_at-moved : (c : PixelValue) (factor : ℕ) (symbols : List Symbol) (style : StyleFields) (symbol : Option ℕ) (at : DevicePoint) →
+    shapes_at factor symbols style symbol (point_from c at) ≡ map (shape_from c) (shapes_at factor symbols style symbol at)
+shapes_at-moved c factor symbols style (Some index) at =
+    option-moved (shape_from c) (λ (s : Symbol). symbol_shapes factor style (point_from c at) s.shape) (λ (s : Symbol). symbol_shapes factor style at s.shape)
+    (λ s. symbol-moved c factor style at s.shape) (slice_get symbols index)
+shapes_at-moved c factor symbols style None at = ap (λ (pixel : PixelValue). marks (record { pixel = pixel; size = factor * style.size }) style.colour) (pixel-of c at) ∙ square_at (pixel_of at) style.colour
   where
-    go : (colour : Option Rgb) → marks (record { pixel = pixel_from c pixel; size = factor * style.size }) colour ≡ map (shape_from c) (marks (record { pixel = pixel; size = factor * style.size }) colour)
-    go None = refl
-    go (Some colour) = refl
+    square_at : (pixel : PixelValue) (colour : Option Rgb) →
+        marks (record { pixel = pixel_from c pixel; size = factor * style.size }) colour ≡ map (shape_from c) (marks (record { pixel = pixel; size = factor * style.size }) colour)
+    square_at pixel None = refl
+    square_at pixel (Some colour) = refl
 
 same-point : (x y x' y' : ℤ) → x ≡ x' → y ≡ y' → ◌≡◌ {A = DevicePoint} (record { x = x; y = y }) (record { x = x'; y = y' })
 same-point x y x' y' e f = rw (e, f) refl
@@ -145,8 +164,8 @@ module _ (view : ViewValue) (across down : Stretch) where
 
     place-moved : (style : StyleFields) (p : Place) → point_shapes block symbols style p ≡ map (shape_from corner) (point_shapes whole symbols style p)
     place-moved style p =
-        ap (shapes_at view.factor symbols style style.symbol) (pixel-moved p)
-        ∙ shapes_at-moved corner view.factor symbols style style.symbol (pixel_of (device_point whole p))
+        ap (shapes_at view.factor symbols style style.symbol) (point-moved p)
+        ∙ shapes_at-moved corner view.factor symbols style style.symbol (device_point whole p)
 
     style-moved : (k : Geometry) (style : StyleFields) → style_shapes block symbols k feature style ≡ map (shape_from corner) (style_shapes whole symbols k feature style)
     style-moved kind.Polygon style = polygon-moved style

@@ -5,7 +5,7 @@ use Rattle.geom.specs.Device.{PixelValue}
 use Rattle.mapdefs.specs.declared.colour.Rgb.{Rgb}
 use Rattle.moves.proofs.Lines.{lines-move, squares-move}
 use Rattle.moves.proofs.Rings.{rings-move}
-use Rattle.moves.proofs.Rounds.{round_lines-move}
+use Rattle.moves.proofs.Rounds.{discs-move, round_lines-move}
 use Rattle.moves.proofs.Stamps.{stamp-colours-move, stamps-move}
 use Rattle.moves.proofs.Texts.{ink-moves, outlines-move}
 use Rattle.canvas.specs.Painted.{colour_at}
@@ -23,6 +23,7 @@ module _ (left top : ℕ) where
   covers-moved (shape.Stroke line colour) i j = lines-move corner line (pos i) (pos j)
   covers-moved (shape.RoundStroke segments colour) i j = round_lines-move corner segments (pos i) (pos j)
   covers-moved (shape.Mark square colour) i j = squares-move corner square (pos i) (pos j)
+  covers-moved (shape.Disc disc colour) i j = discs-move corner disc (pos i) (pos j)
   covers-moved (shape.Stamped pixmap) i j = stamps-move corner pixmap (pos i) (pos j)
   covers-moved (shape.Outlined w reach colour) i j = outlines-move corner reach w.font w.characters w.at (pos i) (pos j)
   covers-moved (shape.Inked w colour) i j = ink-moves corner w.font w.characters w.at (pos i) (pos j)
@@ -32,6 +33,7 @@ module _ (left top : ℕ) where
   colours-moved (shape.Stroke line colour) i j = refl
   colours-moved (shape.RoundStroke segments colour) i j = refl
   colours-moved (shape.Mark square colour) i j = refl
+  colours-moved (shape.Disc disc colour) i j = refl
   colours-moved (shape.Stamped pixmap) i j = stamp-colours-move corner pixmap (pos i) (pos j)
   colours-moved (shape.Outlined w reach colour) i j = refl
   colours-moved (shape.Inked w colour) i j = refl

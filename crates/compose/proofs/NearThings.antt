@@ -5,8 +5,8 @@ use Rattle.std.proofs.lemmas.List.Folds.{list_any-append}
 use Rattle.std.specs.List.{Contains, flat_map, list_any, slice_get}
 use Rattle.std.specs.Prelude.{if◌then◌else◌, nat_lt}
 use Rattle.std.specs.Option.{option_map_or}
-use Rattle.canvas.specs.Shapes.{PaintedShape, RoundStroke, Stroke, covers, fills, line_by, marks, stamps, strokes}
-use Rattle.inking.specs.Styles.{point_shapes}
+use Rattle.canvas.specs.Shapes.{PaintedShape, RoundStroke, Stroke, covers, discs, fills, line_by, marks, strokes}
+use Rattle.inking.specs.Styles.{point_shapes, symbol_shapes}
 use Rattle.compose.specs.Paint.{class_shapes, parts_of, polygon_shapes, style_shapes}
 use lib.IntN.{pos}
 use Rattle.geom.specs.Device.{DevicePoint, pixel_centre, pixel_of}
@@ -22,7 +22,10 @@ use Rattle.mapdefs.specs.declared.layer.Geometry.TheVariants as kind
 use Rattle.mapdefs.specs.declared.layer.LayerFields.{LayerFields}
 use Rattle.mapdefs.specs.declared.style.StyleFields.{StyleFields}
 use Rattle.mapdefs.specs.declared.symbol.Symbol.{Symbol}
+use Rattle.mapdefs.specs.declared.symbol.SymbolShape.{SymbolShape}
+use Rattle.mapdefs.specs.declared.symbol.SymbolShape.TheVariants as symbol
 use Rattle.strokes.proofs.Short.{or-cases}
+use Rattle.strokes.specs.Disc.{DiscValue, covers_disc, disc_of, ring_of}
 use Rattle.strokes.specs.Line.{line_of}
 use Rattle.strokes.specs.Round.{round_line}
 use Rattle.strokes.specs.Square.{SquareValue, covers_square}
@@ -33,7 +36,7 @@ use Rattle.compose.specs.Near.{PaintsNear, furthest, margin_of, reach_of, side_o
 use Rattle.vertices.proofs.NearBoxes.{AreRound, box-in}
 use Rattle.vertices.proofs.Finding.{any-flat_map, contains-flat, found-there}
 use Rattle.vertices.proofs.NearLines.{line-round}
-use Rattle.vertices.proofs.NearRounds.{round_line-round}
+use Rattle.vertices.proofs.NearRounds.{disc-by, round_line-round}
 use Rattle.vertices.proofs.NearShapes.{IsBy, by-round, fill-round, square-by, stamp-by}
 
 -- no style of the list paints further than the furthest
@@ -92,24 +95,43 @@ polygon-round view margin feature style i j wide column row h =
     (λ (e : list_any (λ t. covers t i j) second ≡ true). strokes-round view margin true style.width feature.parts style.outline i j wide column row e)
     (or-cases (list_any (λ t. covers t i j) first) (list_any (λ t. covers t i j) second) (sym (list_any-append (λ t. covers t i j) first second) ∙ h))
 
+-- a disc or a ring at a point
+disc-cover : (view : ViewValue) (margin : ℕ) (d : DiscValue) (colour : Option Rgb) (i j : ℕ) → d.size ≤ margin → i < view.width → j < view.height →
+    list_any (λ t. covers t i j) (discs d colour) ≡ true → IsBy view margin d.at
+disc-cover view margin d None i j wide column row h = absurd (cc)
+disc-cover view margin d (Some colour) i j wide column row h = disc-by view margin d i j wide column row (one-shape (covers_disc d (pixel_centre (pos i) (pos j))) h)
+
+-- what a symbol draws at a point
+shape-by : (view : ViewValue) (margin : ℕ) (style : StyleFields) (v : DevicePoint) (i j : ℕ) (s : SymbolShape) → view.factor * style.size ≤ margin → side_of s ≤ margin →
+    i < view.width → j < view.height → list_any (λ t. covers t i j) (symbol_shapes view.factor style v s) ≡ true → IsBy view margin v
+shape-by view margin style v i j symbol.Disc wide high column row h =
+    let first : List PaintedShape = discs (disc_of v (view.factor * style.size)) style.colour in
+    let second : List PaintedShape = discs (ring_of v (view.factor * style.size) (view.factor * style.width)) style.outline in
+    ⊎_elim
+    (λ (e : list_any (λ t. covers t i j) first ≡ true). disc-cover view margin (disc_of v (view.factor * style.size)) style.colour i j wide column row e)
+    (λ (e : list_any (λ t. covers t i j) second ≡ true). disc-cover view margin (ring_of v (view.factor * style.size) (view.factor * style.width)) style.outline i j wide column row e)
+    (or-cases (list_any (λ t. covers t i j) first) (list_any (λ t. covers t i j) second) (sym (list_any-append (λ t. covers t i j) first second) ∙ h))
+shape-by view margin style v i j (symbol.Pixmap pixmap) wide high column row h =
+    stamp-by view margin v pixmap i j (omega (arith, high, le-max_left pixmap.width pixmap.height)) (omega (arith, high, le-max_right pixmap.width pixmap.height)) column row
+    (one-shape (stamp.covers_pixel (record { pixmap = pixmap; pixel = pixel_of v }) (pos i) (pos j)) h)
+
 -- a symbol at a point
-stamped-by : (view : ViewValue) (margin : ℕ) (v : DevicePoint) (i j : ℕ) (symbol : Option Symbol) → option_map_or side_of symbol 0 ≤ margin → i < view.width → j < view.height →
-    list_any (λ t. covers t i j) (option_map_or (stamps (pixel_of v)) symbol []) ≡ true → IsBy view margin v
-stamped-by view margin v i j None most column row h = absurd (cc)
-stamped-by view margin v i j (Some symbol) most column row h =
-    stamp-by view margin v symbol.pixmap i j (omega (arith, most, le-max_left symbol.pixmap.width symbol.pixmap.height)) (omega (arith, most, le-max_right symbol.pixmap.width symbol.pixmap.height)) column row
-    (one-shape (stamp.covers_pixel (record { pixmap = symbol.pixmap; pixel = pixel_of v }) (pos i) (pos j)) h)
+symbol-by : (view : ViewValue) (margin : ℕ) (style : StyleFields) (v : DevicePoint) (i j : ℕ) (found : Option Symbol) → view.factor * style.size ≤ margin →
+    option_map_or (λ (s : Symbol). side_of s.shape) found 0 ≤ margin → i < view.width → j < view.height →
+    list_any (λ t. covers t i j) (option_map_or (λ (s : Symbol). symbol_shapes view.factor style v s.shape) found []) ≡ true → IsBy view margin v
+symbol-by view margin style v i j None wide high column row h = absurd (cc)
+symbol-by view margin style v i j (Some s) wide high column row h = shape-by view margin style v i j s.shape wide high column row h
 
 -- a point
-point-by : (view : ViewValue) (margin : ℕ) (symbols : List Symbol) (v : DevicePoint) (size : ℕ) (colour : Option Rgb) (symbol : Option ℕ) (i j : ℕ) →
-    size ≤ margin → symbol_reach symbols symbol ≤ margin → i < view.width → j < view.height →
-    list_any (λ t. covers t i j) (elim symbol [
-      | Some index ↦ option_map_or (stamps (pixel_of v)) (slice_get symbols index) []
-      | None ↦ marks (record { pixel = pixel_of v; size = size }) colour
+point-by : (view : ViewValue) (margin : ℕ) (symbols : List Symbol) (style : StyleFields) (v : DevicePoint) (named : Option ℕ) (i j : ℕ) →
+    view.factor * style.size ≤ margin → symbol_reach symbols named ≤ margin → i < view.width → j < view.height →
+    list_any (λ t. covers t i j) (elim named [
+      | Some index ↦ option_map_or (λ (s : Symbol). symbol_shapes view.factor style v s.shape) (slice_get symbols index) []
+      | None ↦ marks (record { pixel = pixel_of v; size = view.factor * style.size }) style.colour
     ]) ≡ true → IsBy view margin v
-point-by view margin symbols v size colour None i j wide high column row h =
-    square-by view margin v size i j wide column row (marks-cover (record { pixel = pixel_of v; size = size }) colour i j h)
-point-by view margin symbols v size colour (Some index) i j wide high column row h = stamped-by view margin v i j (slice_get symbols index) high column row h
+point-by view margin symbols style v None i j wide high column row h =
+    square-by view margin v (view.factor * style.size) i j wide column row (marks-cover (record { pixel = pixel_of v; size = view.factor * style.size }) style.colour i j h)
+point-by view margin symbols style v (Some index) i j wide high column row h = symbol-by view margin style v i j (slice_get symbols index) wide high column row h
 
 -- the points of a feature, one of which is painted by a style
 points-round : (view : ViewValue) (margin : ℕ) (symbols : List Symbol) (feature : FeatureFields) (style : StyleFields) (i j : ℕ) →
@@ -119,7 +141,7 @@ points-round view margin symbols feature style i j wide high column row h =
     let (part, among, e) = any-flat_map (λ t. covers t i j) (λ (part : List Place). flat_map (point_shapes view symbols style) part) feature.parts h in
     let (q, there, f) = any-flat_map (λ t. covers t i j) (point_shapes view symbols style) part e in
     by-round view margin (points_of feature) q (contains-flat (λ (part : List Place). part) feature.parts part q among there)
-    (point-by view margin symbols (device_point view q) (view.factor * style.size) style.colour style.symbol i j wide high column row f)
+    (point-by view margin symbols style (device_point view q) style.symbol i j wide high column row f)
 
 -- the width of a style is no more than its reach
 width-within : (factor : ℕ) (symbols : List Symbol) (style : StyleFields) (margin : ℕ) → reach_of factor symbols style ≤ margin → factor * style.width ≤ margin

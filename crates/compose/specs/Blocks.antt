@@ -7,7 +7,7 @@ use Rattle.labelcache.specs.declared.cache.Placed.{Placed}
 use Rattle.mapdefs.specs.declared.colour.Rgb.{Rgb}
 use Rattle.mapdefs.specs.declared.map.MapFields.{MapFields}
 use Rattle.mapdefs.specs.declared.picture.PictureFields.{PictureFields}
-use Rattle.moves.specs.Moves.{line_from, pixel_from, points_from, segment_from, square_from, stamp_from}
+use Rattle.moves.specs.Moves.{disc_from, line_from, pixel_from, points_from, segment_from, square_from, stamp_from}
 use Rattle.viewport.specs.View.{ViewValue, block_of, whole_of}
 use Rattle.viewport.specs.declared.fine.Stretch.{Stretch}
 use Rattle.canvas.specs.Painted.{IsPainted, colour_at}
@@ -22,6 +22,7 @@ shape_from corner (shape.Fill rings colour) = shape.Fill (points_from corner rin
 shape_from corner (shape.Stroke line colour) = shape.Stroke (line_from corner line) colour
 shape_from corner (shape.RoundStroke segments colour) = shape.RoundStroke (map (segment_from corner) segments) colour
 shape_from corner (shape.Mark square colour) = shape.Mark (square_from corner square) colour
+shape_from corner (shape.Disc disc colour) = shape.Disc (disc_from corner disc) colour
 shape_from corner (shape.Stamped pixmap) = shape.Stamped (stamp_from corner pixmap)
 shape_from corner (shape.Outlined w reach colour) = shape.Outlined (record w { at = pixel_from corner w.at }) reach colour
 shape_from corner (shape.Inked w colour) = shape.Inked (record w { at = pixel_from corner w.at }) colour

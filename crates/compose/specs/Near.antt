@@ -11,19 +11,22 @@ use Rattle.mapdefs.specs.declared.feature.FeatureFields.{FeatureFields}
 use Rattle.mapdefs.specs.declared.layer.LayerFields.{LayerFields}
 use Rattle.mapdefs.specs.declared.style.StyleFields.{StyleFields}
 use Rattle.mapdefs.specs.declared.symbol.Symbol.{Symbol}
+use Rattle.mapdefs.specs.declared.symbol.SymbolShape.{SymbolShape}
+use Rattle.mapdefs.specs.declared.symbol.SymbolShape.TheVariants as symbol
 use Rattle.viewport.specs.View.{IsView, ViewValue, window}
 use Rattle.canvas.specs.Shapes.{PaintedShape, covers}
 use Rattle.compose.specs.Paint.{feature_shapes}
 use Rattle.compose.specs.Walk.{given_at}
 use Rattle.mapdefs.specs.Near.{HasBoxIn}
 
--- the greater side of a symbol's pixmap
-abbrev pub side_of : Symbol → ℕ
-side_of symbol = max symbol.pixmap.width symbol.pixmap.height
+-- the greater side of a symbol's pixmap; a disc has the size of its style
+abbrev pub side_of : SymbolShape → ℕ
+side_of symbol.Disc = 0
+side_of (symbol.Pixmap pixmap) = max pixmap.width pixmap.height
 
--- how far a symbol paints from a point at most: the greater side of its pixmap
+-- how far a symbol paints from a point at most, beside the size of its style: the greater side of its pixmap
 abbrev pub symbol_reach : List Symbol → Option ℕ → ℕ
-symbol_reach symbols (Some index) = option_map_or side_of (slice_get symbols index) 0
+symbol_reach symbols (Some index) = option_map_or (λ (symbol : Symbol). side_of symbol.shape) (slice_get symbols index) 0
 symbol_reach symbols None = 0
 
 -- how far a style paints from a point at most, where a map's pixel is so many of the picture's: its width, its size and the sides of its symbol

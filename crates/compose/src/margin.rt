@@ -3,25 +3,30 @@ ghost use Rattle.compose.specs.Near.{furthest, margin_of, reach_of, side_of, sym
 ghost use Rattle.mapdefs.specs.declared.limits.TheConstants.{MAX_FINE_SQUARE, MAX_SYMBOL_SIDE};
 
 use geom::Factor;
-use mapdefs::{LayerFields, Style, Symbol};
+use mapdefs::{LayerFields, Style, Symbol, SymbolShape};
 
-// The greater side of a symbol's pixmap.
-fn side_of(symbol: &Symbol) -> u16
+// The greater side of a symbol's pixmap. A disc has the size of its style.
+fn side_of(symbol: &SymbolShape) -> u16
     ensures value { result ≡ side_of symbol.now }
     ensures most { result ≤ MAX_SYMBOL_SIDE }
 {
-    let pixmap = symbol.pixmap.get();
-    pixmap.width.max(pixmap.height)
+    match symbol {
+        SymbolShape::Disc => 0,
+        SymbolShape::Pixmap(pixmap) => {
+            let fields = pixmap.get();
+            fields.width.max(fields.height)
+        }
+    }
 }
 
-// How far the symbol at an index paints from a point at most.
+// How far the symbol at an index paints from a point at most, beside the size of its style.
 fn reach_of_symbol(symbols: &[Symbol], index: Option<usize>) -> u16
     ensures value { result ≡ symbol_reach symbols.now index }
     ensures most { result ≤ MAX_SYMBOL_SIDE }
 {
     match index {
         Some(index) => match symbols.get(index) {
-            Some(symbol) => side_of(symbol),
+            Some(symbol) => side_of(&symbol.shape),
             None => 0,
         },
         None => 0,

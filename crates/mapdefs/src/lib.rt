@@ -75,7 +75,7 @@ pub use shared::Shared;
 pub use shared_items::SharedItems;
 pub use smooth_picture::{SmoothFields, SmoothPicture};
 pub use style::{Style, StyleFields};
-pub use symbol::{Pixmap, PixmapFields, Symbol};
+pub use symbol::{Pixmap, PixmapFields, Symbol, SymbolShape};
 pub use text::Text;
 pub use texts::Texts;
 pub use values::Values;

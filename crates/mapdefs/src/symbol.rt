@@ -17,9 +17,18 @@ impl Limits for PixmapFields {
 /// The picture of a symbol. Each side has 1 to `MAX_SYMBOL_SIDE` pixels.
 pub type Pixmap = Limited<PixmapFields>;
 
+/// What a symbol draws at a point.
+#[derive(Drop)]
+pub enum SymbolShape {
+    /// The disc of the style's size round the point, and its outline as a ring in it.
+    Disc,
+    /// A pixmap round the point's pixel.
+    Pixmap(Pixmap),
+}
+
 /// A symbol that points are drawn with.
 #[derive(Drop)]
 pub struct Symbol {
     pub name: Text,
-    pub pixmap: Pixmap,
+    pub shape: SymbolShape,
 }

@@ -1,5 +1,5 @@
 use crate::results::{add_file, fault_text, used_files, with_used_files, written};
-use mapdefs::{Layer, Map};
+use mapdefs::{Layer, Map, Symbol, SymbolShape};
 use mapparse::{Files, parse};
 use std::alloc::{AllocError, Global};
 use test_tables::{TableFault, check_rows};
@@ -25,13 +25,23 @@ fn write_styles(text: &mut String, layer: &Layer) -> Result<(), AllocError> {
     Ok(())
 }
 
+// Adds a symbol's name and its sides.
+fn write_symbol(text: &mut String, symbol: &Symbol) -> Result<(), AllocError> {
+    let name = symbol.name.as_str();
+    match &symbol.shape {
+        SymbolShape::Disc => write!(text, "{name} disc,"),
+        SymbolShape::Pixmap(pixmap) => {
+            let (width, height) = (pixmap.get().width, pixmap.get().height);
+            write!(text, "{name} {width} by {height},")
+        }
+    }
+}
+
 // The symbols of a map with their sides, and the symbol of each style.
 fn symbols_of(alloc: Global, map: &Map) -> Result<String, AllocError> {
     let mut text = String::new(alloc);
     for symbol in map.get().symbols.as_slice() {
-        let pixmap = symbol.pixmap.get();
-        let (width, height) = (pixmap.width, pixmap.height);
-        write!(text, "{} {width} by {height},", symbol.name.as_str())?;
+        write_symbol(&mut text, symbol)?;
     }
     for layer in map.get().layers.as_slice() {
         write_styles(&mut text, layer)?;

@@ -7,7 +7,7 @@ use Rattle.mapwords.specs.declared.fault.Fault.{Fault}
 use Rattle.maptree.specs.declared.tree.SymbolTree.{SymbolTree}
 use Rattle.mapdefs.specs.Outcome.{and_then}
 use Rattle.mapparse.specs.declared.files.FileBytes.{FileBytes}
-use Rattle.mapparse.specs.Symbols.{pixmap_in, symbols_of}
+use Rattle.mapparse.specs.Symbols.{shape_in, symbols_of}
 
 -- one more symbol is made
 module _ (files : List FileBytes) (done : List Symbol) where
@@ -17,7 +17,7 @@ module _ (files : List FileBytes) (done : List Symbol) where
   joined symbol (Err f) = refl
 
   pub one-more : (trees : List SymbolTree) (i : ℕ) (tree : SymbolTree) (made : Symbol) → i < length trees → tree ≡ get_or trees i tree →
-      (pixmap_in files tree.image ≡ Ok made.pixmap) × (made.name ≡ tree.name.text) →
+      (shape_in files tree ≡ Ok made.shape) × (made.name ≡ tree.name.text) →
       and_then (symbols_of files (drop (i + 1) trees)) (λ more. Ok ((done ++ made ∷ []) ++ more))
       ≡ and_then (symbols_of files (drop i trees)) (λ more. Ok (done ++ more))
   one-more trees i tree made below e is =
@@ -25,5 +25,5 @@ module _ (files : List FileBytes) (done : List Symbol) where
 
   -- none is made of a tree with a fault
   pub one-fault : (trees : List SymbolTree) (i : ℕ) (tree : SymbolTree) (f : Fault) → i < length trees → tree ≡ get_or trees i tree →
-      pixmap_in files tree.image ≡ Err f → and_then (symbols_of files (drop i trees)) (λ more. Ok (done ++ more)) ≡ Err f
+      shape_in files tree ≡ Err f → and_then (symbols_of files (drop i trees)) (λ more. Ok (done ++ more)) ≡ Err f
   one-fault trees i tree f below e is = rw (drop-cons trees i tree below, ← e, is) refl

@@ -4,6 +4,8 @@ use Rattle.std.specs.Option.{option_or}
 use Rattle.mapdefs.specs.Name.{is_same_name}
 use Rattle.mapdefs.specs.declared.symbol.PixmapFields.{PixmapFields}
 use Rattle.mapdefs.specs.declared.symbol.Symbol.{Symbol}
+use Rattle.mapdefs.specs.declared.symbol.SymbolShape.{SymbolShape}
+use Rattle.mapdefs.specs.declared.symbol.SymbolShape.TheVariants as symbol
 use Rattle.mapwords.specs.declared.fault.Fault.{Fault}
 use Rattle.mapwords.specs.declared.named.Named.{Named}
 use Rattle.maptree.specs.declared.tree.SymbolTree.{SymbolTree}
@@ -26,9 +28,13 @@ symbol_index symbols named = option_and_then (λ (n : Named). last_named n.text 
 abbrev pub pixmap_in : List FileBytes → Named → Result PixmapFields Fault
 pixmap_in files image = read_from pixmap_of image.line (bytes_in image.text files)
 
--- the symbols of a map with the pixmaps of their images, or the fault of the first that has none
+-- what a symbol draws: the pixmap of its image
+abbrev pub shape_in : List FileBytes → SymbolTree → Result SymbolShape Fault
+shape_in files tree = and_then (pixmap_in files tree.image) (λ pixmap. Ok (symbol.Pixmap pixmap))
+
+-- the symbols of a map with what they draw, or the fault of the first whose image is no pixmap
 abbrev pub symbols_of : List FileBytes → List SymbolTree → Result (List Symbol) Fault
 symbols_of files [] = Ok []
 symbols_of files (tree ∷ trees) =
-    and_then (pixmap_in files tree.image) (λ pixmap.
-    and_then (symbols_of files trees) (λ symbols. Ok (record { name = tree.name.text; pixmap = pixmap } ∷ symbols)))
+    and_then (shape_in files tree) (λ shape.
+    and_then (symbols_of files trees) (λ symbols. Ok (record { name = tree.name.text; shape = shape } ∷ symbols)))

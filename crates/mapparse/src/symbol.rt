@@ -1,9 +1,9 @@
 ghost use Rattle.std.specs.Prelude.{◌≡◌, length, option_map, Ok, IfOk, IfErr};
 ghost use Rattle.mapwords.specs.Fault.{IsFaultOf};
-ghost use Rattle.mapparse.specs.Symbols.{last_named, symbol_index, pixmap_in, symbols_of};
+ghost use Rattle.mapparse.specs.Symbols.{last_named, symbol_index, pixmap_in, shape_in, symbols_of};
 
 use crate::files::Files;
-use mapdefs::{Duplicate, Items, Pixmap, SharedItems, Symbol};
+use mapdefs::{Duplicate, Items, Pixmap, SharedItems, Symbol, SymbolShape};
 use maptree::{Named, ParseFault, ParseKind, SymbolTree};
 use std::alloc::Global;
 use symbols::{PixFault, read};
@@ -53,19 +53,28 @@ fn pixmap_in(files: &Files, image: &Named, alloc: Global) -> Result<Pixmap, Pars
     }
 }
 
-// The symbol of a tree, with the pixmap of its image.
-fn symbol_of(tree: &SymbolTree, files: &Files, alloc: Global) -> Result<Symbol, ParseFault>
-    ensures symbol { IfOk result (λ made. (pixmap_in files.now tree.now.image ≡ Ok made.pixmap) × (made.name ≡ tree.now.name.text)) }
-    ensures fault { IfErr result (IsFaultOf (pixmap_in files.now tree.now.image)) }
+// What the symbol of a tree draws.
+fn shape_in(tree: &SymbolTree, files: &Files, alloc: Global) -> Result<SymbolShape, ParseFault>
+    ensures shape { IfOk result (λ shape. shape_in files.now tree.now ≡ Ok shape) }
+    ensures fault { IfErr result (IsFaultOf (shape_in files.now tree.now)) }
 {
     let pixmap = pixmap_in(files, &tree.image, alloc)?;
+    Ok(SymbolShape::Pixmap(pixmap))
+}
+
+// The symbol of a tree.
+fn symbol_of(tree: &SymbolTree, files: &Files, alloc: Global) -> Result<Symbol, ParseFault>
+    ensures symbol { IfOk result (λ made. (shape_in files.now tree.now ≡ Ok made.shape) × (made.name ≡ tree.now.name.text)) }
+    ensures fault { IfErr result (IsFaultOf (shape_in files.now tree.now)) }
+{
+    let shape = shape_in(tree, files, alloc)?;
     Ok(Symbol {
         name: tree.name.text.duplicate(alloc)?,
-        pixmap,
+        shape,
     })
 }
 
-/// The symbols of a map, each with the pixmap of its image.
+/// The symbols of a map, each with what it draws.
 pub fn symbols_of(
     trees: &[SymbolTree],
     files: &Files,

@@ -34,6 +34,7 @@ use Rattle.mapdefs.specs.contracts.shared_items.SharedItems as SharedItems
 use Rattle.mapdefs.specs.contracts.style.StyleFields as StyleFields
 use Rattle.mapdefs.specs.contracts.symbol.PixmapFields as PixmapFields
 use Rattle.mapdefs.specs.contracts.symbol.Symbol as Symbol
+use Rattle.mapdefs.specs.contracts.symbol.SymbolShape as SymbolShape
 use Rattle.mapdefs.specs.contracts.text.Text as Text
 use Rattle.mapdefs.specs.contracts.texts.Texts as Texts
 use Rattle.mapdefs.specs.contracts.values.Values as Values
@@ -235,11 +236,17 @@ pixmap-send = search (small) depth 60 fits 20000
 pub pixmap-sync : IsSync PixmapFields.the_row
 pixmap-sync = search (small) depth 60 fits 20000
 
+pub shape-send : IsSend SymbolShape.the_row
+shape-send = search (pixmap-send, small) depth 60 fits 20000
+
+pub shape-sync : IsSync SymbolShape.the_row
+shape-sync = search (pixmap-sync, small) depth 60 fits 20000
+
 pub symbol-send : IsSend Symbol.the_row
-symbol-send = search (pixmap-send, small) depth 60 fits 20000
+symbol-send = search (shape-send, small) depth 60 fits 20000
 
 pub symbol-sync : IsSync Symbol.the_row
-symbol-sync = search (pixmap-sync, small) depth 60 fits 20000
+symbol-sync = search (shape-sync, small) depth 60 fits 20000
 
 pub glyph-send : IsSend Glyph.the_row
 glyph-send = search (small) depth 60 fits 20000

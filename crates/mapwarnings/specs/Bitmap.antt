@@ -3,6 +3,8 @@ use Rattle.std.specs.Prelude.{ℕ, ◌+◌, ◌*◌, ◌&&◌, nat_lt, max, Bool
 use Rattle.mapdefs.specs.declared.font.FontFields.{FontFields}
 use Rattle.mapdefs.specs.declared.map.MapFields.{MapFields}
 use Rattle.mapdefs.specs.declared.symbol.Symbol.{Symbol}
+use Rattle.mapdefs.specs.declared.symbol.SymbolShape.{SymbolShape}
+use Rattle.mapdefs.specs.declared.symbol.SymbolShape.TheVariants as symbol
 use Rattle.mapwarnings.specs.declared.bitmap.Bitmap.{Bitmap}
 use Rattle.mapwarnings.specs.declared.bitmap.Bitmap.TheVariants as bitmap
 use Rattle.mapwarnings.specs.declared.bitmap.SmallBitmap.{SmallBitmap}
@@ -30,11 +32,15 @@ abbrev pub small_font : ℕ → Option FontFields → List SmallBitmap
 small_font factor None = []
 small_font factor (Some font) = small_bitmap factor bitmap.Font font.bounds.height
 
--- some symbols, of which the first has this number, each by the longer side of its pixmap
+-- a symbol of a number, by the longer side of its pixmap; a disc is no bitmap
+abbrev pub small_symbol : ℕ → ℕ → SymbolShape → List SmallBitmap
+small_symbol factor number symbol.Disc = []
+small_symbol factor number (symbol.Pixmap pixmap) = small_bitmap factor (bitmap.Symbol number) (max pixmap.width pixmap.height)
+
+-- some symbols, of which the first has this number
 abbrev pub small_symbols : ℕ → ℕ → List Symbol → List SmallBitmap
 small_symbols factor number [] = []
-small_symbols factor number (symbol ∷ symbols) =
-    small_bitmap factor (bitmap.Symbol number) (max symbol.pixmap.width symbol.pixmap.height) ++ small_symbols factor (number + 1) symbols
+small_symbols factor number (symbol ∷ symbols) = small_symbol factor number symbol.shape ++ small_symbols factor (number + 1) symbols
 
 -- all of a map: its font, and then its symbols in the order of the mapfile, numbered from 1
 abbrev pub small_bitmaps : MapFields → List SmallBitmap

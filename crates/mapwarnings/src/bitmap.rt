@@ -1,8 +1,8 @@
 ghost use Rattle.std.specs.Prelude.{◌≡◌, ◌++◌, ◌<◌, ◌≤◌, ◌^◌, max, IfOk, OnOk};
-ghost use Rattle.mapwarnings.specs.Bitmap.{is_small, least_of, small_bitmap, small_bitmaps, small_font, small_symbols};
+ghost use Rattle.mapwarnings.specs.Bitmap.{is_small, least_of, small_bitmap, small_bitmaps, small_font, small_symbol, small_symbols};
 
 use geom::Factor;
-use mapdefs::{Font, Map, Pixmap, Shared, Symbol};
+use mapdefs::{Font, Map, Pixmap, Shared, Symbol, SymbolShape};
 use std::alloc::{AllocError, Global};
 
 /// How many pixels of the picture letters have at least that can be read.
@@ -96,6 +96,23 @@ fn longer_side(pixmap: &Pixmap) -> u16
     fields.width.max(fields.height)
 }
 
+// Adds the symbol of a number if it is a pixmap that is shown too small.
+fn add_symbol(
+    out: &mut Vec<SmallBitmap>,
+    factor: Factor,
+    number: usize,
+    shape: &SymbolShape,
+) -> Result<(), AllocError>
+    ensures { OnOk result (out.new.items ≡ out.old.items ++ small_symbol factor number shape.now) }
+{
+    match shape {
+        SymbolShape::Pixmap(pixmap) => {
+            add_small(out, factor, Bitmap::Symbol(number), longer_side(pixmap))
+        }
+        SymbolShape::Disc => Ok(()),
+    }
+}
+
 // Adds those of some symbols that are shown too small. The first has the number 1.
 fn add_symbols(
     out: &mut Vec<SmallBitmap>,
@@ -105,8 +122,7 @@ fn add_symbols(
     ensures { OnOk result (out.new.items ≡ out.old.items ++ small_symbols factor 1 symbols.now) }
 {
     for (index, symbol) in symbols.iter().enumerate() {
-        let bitmap = Bitmap::Symbol(index + 1);
-        add_small(out, factor, bitmap, longer_side(&symbol.pixmap))?;
+        add_symbol(out, factor, index + 1, &symbol.shape)?;
     }
     Ok(())
 }

@@ -5,10 +5,11 @@ use Rattle.std.specs.Prelude.{int_le, int_lt}
 use lib.IntN.{ℤ, pos, ◌+ℤ◌, ◌-ℤ◌, ◌*ℤ◌}
 use Rattle.geom.specs.Device.{DevicePoint, PixelValue, pixel_centre}
 use Rattle.geom.specs.Edge.{EdgeEnds}
+use Rattle.strokes.specs.Disc.{DiscValue, covers_disc}
 use Rattle.strokes.specs.Line.{edges_of, segment_along}
 use Rattle.strokes.specs.Segment.{SegmentValue}
-use Rattle.moves.specs.Laws.{RoundLinesAreMoved, RoundLinesMove}
-use Rattle.moves.specs.Moves.{edge_from, point_from, segment_from}
+use Rattle.moves.specs.Laws.{DiscsMove, RoundLinesAreMoved, RoundLinesMove}
+use Rattle.moves.specs.Moves.{disc_from, edge_from, point_from, segment_from}
 use Rattle.strokes.specs.Round.{along, apart, aside, covers_round, has_centre, is_abreast, is_close, is_round, point_edge, round_edges, round_segments, square, square_of_half}
 use Rattle.moves.proofs.Edges.{both, centre-from}
 use Rattle.moves.proofs.Lines.{edges_of-from, either}
@@ -93,3 +94,11 @@ round_lines-move c segments i j = any-moved (has_centre i j) (segment_from c) (h
 pub round_lines-are-moved : RoundLinesAreMoved
 round_lines-are-moved c parts closed width =
     flat_map-moved (round_segments closed width) (map (point_from c)) (segment_from c) (round_segments closed width) (segments-from c closed width) parts
+
+-- discs
+disc-moved : (c : PixelValue) (d : DiscValue) (p : DevicePoint) → covers_disc (disc_from c d) (point_from c p) ≡ covers_disc d p
+unfolding covers_disc
+disc-moved c d p = ap (λ z. int_le z (square_of_half d.size) && int_le (square_of_half d.hole) z) (apart-from c d.at p)
+
+pub discs-move : DiscsMove
+discs-move c d i j = ap (covers_disc (disc_from c d)) (centre-from c i j) ∙ disc-moved c d (pixel_centre (c.i +ℤ i) (c.j +ℤ j))

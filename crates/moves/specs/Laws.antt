@@ -7,13 +7,14 @@ use Rattle.geom.specs.EvenOdd.{is_inside}
 use Rattle.labelink.specs.Ink.{has_outline}
 use Rattle.labelink.specs.declared.reach.Reach.{Reach}
 use Rattle.mapdefs.specs.declared.font.FontFields.{FontFields}
+use Rattle.strokes.specs.Disc.{DiscValue, covers_disc}
 use Rattle.strokes.specs.Line.{LineValue, line_of}
 use Rattle.strokes.specs.Line as line
 use Rattle.strokes.specs.Segment.{SegmentValue}
 use Rattle.strokes.specs.Square.{SquareValue, covers_square}
 use Rattle.symbols.specs.Stamp.{StampValue, pixel_at}
 use Rattle.symbols.specs.Stamp as stamp
-use Rattle.moves.specs.Moves.{line_from, pixel_from, point_from, points_from, segment_from, square_from, stamp_from}
+use Rattle.moves.specs.Moves.{disc_from, line_from, pixel_from, point_from, points_from, segment_from, square_from, stamp_from}
 use Rattle.strokes.specs.Round.{round_line}
 use Rattle.strokes.specs.Round as round
 
@@ -51,6 +52,11 @@ RoundLinesMove = (corner : PixelValue) (segments : List SegmentValue) →
 -- squares
 abbrev pub SquaresMove : Type 0
 SquaresMove = (corner : PixelValue) (s : SquareValue) → IsFrom corner (covers_square (square_from corner s)) (covers_square s)
+
+-- discs
+abbrev pub DiscsMove : Type 0
+DiscsMove = (corner : PixelValue) (d : DiscValue) →
+    IsFrom corner (λ i j. covers_disc (disc_from corner d) (pixel_centre i j)) (λ i j. covers_disc d (pixel_centre i j))
 
 -- stamps, and their colours
 abbrev pub StampsMove : Type 0

@@ -1,6 +1,6 @@
 //! Laws of the definitions. A law is a function without arguments whose contract states it.
 
-ghost use Rattle.moves.specs.Laws.{InkMoves, LinesAreMoved, LinesMove, OutlinesMove, PixelsMove, RingsMove, RoundLinesAreMoved, RoundLinesMove, SquaresMove, StampColoursMove, StampsMove};
+ghost use Rattle.moves.specs.Laws.{DiscsMove, InkMoves, LinesAreMoved, LinesMove, OutlinesMove, PixelsMove, RingsMove, RoundLinesAreMoved, RoundLinesMove, SquaresMove, StampColoursMove, StampsMove};
 
 /// From a corner a point lies in the pixel that it lies in, as that lies from the corner.
 pub fn pixels()
@@ -29,6 +29,11 @@ pub fn round_lines()
 /// So does a square.
 pub fn squares()
     ensures { SquaresMove }
+{}
+
+/// So does a disc.
+pub fn discs()
+    ensures { DiscsMove }
 {}
 
 /// So does a stamp, with the same colours.

@@ -105,9 +105,20 @@ const BLOCKS: &str = "\
 ## #.=2,2 1,2;line #-1/- none;5,5 35,35
 #.. ... ...=1,3 1,3;point #--1/- none;5,35
 ## ## ..=2,2 1,3;point #--1/- none;25,25
-#o .#=2,2 0,2;point #---0/- none;35,25";
+#o .#=2,2 0,2;point #---0/- none;35,25
+# discs: on a corner of pixels, on a pixel centre, and round a point between them, not round its pixel
+.... .##. .##. ....=0,4 0,4;point #--12/- none;20,20
+..#. .### ..#. ....=0,4 0,4;point #--12/- none;25,25
+.... ..#. ..#. ....=0,4 0,4;point #--12/- none;24,20
+# a ring over its disc, a ring alone, and one of half the size, which is the whole disc
+oooo o##o o##o oooo=0,4 0,4;point #o132/- none;20,20
+oooo o..o o..o oooo=0,4 0,4;point -o132/- none;20,20
+.oo. oooo oooo .oo.=0,4 0,4;point #o122/- none;20,20
+# discs that reach into the block, of a point within it and of one before it
+### .#. ...=1,3 1,3;point #--12/- none;25,25
+#.. ... ...=1,3 1,3;point #--22/- none;5,35";
 
 #[test]
 fn blocks_have_what_the_whole_picture_has(rt: HostRuntime) -> Result<(), TableFault> {
-    check_rows(rt.alloc(), BLOCKS, '=', 10, block_of_row)
+    check_rows(rt.alloc(), BLOCKS, '=', 18, block_of_row)
 }

@@ -48,11 +48,14 @@ no memory=4 point #--3/- none;-5,20
 ###_ #oo_ #oo_ ____=3 point #--3/o--2 none;15,25
 ###_ #oo_ #oo_ ____=7 point #--3/o-72 none;15,25
 no memory=3 point #--3/o-72 none;15,25
+# a disc half a pixel left of the picture
+____ #___ #___ ____=3 point #--32/- none;-5,20
+no memory=2 point #--32/- none;-5,20
 ____ _oo_ _oo_ ____=5 polygon o-5/- none;10,10 30,10 30,30 10,30
 no memory=1 polygon o-5/- none;10,10 30,10 30,30 10,30
 no memory=4096 polygon o-5/- none;10,10 30,10 30,30 10,30";
 
 #[test]
 fn features_are_looked_for_as_far_off_as_styles_paint(rt: HostRuntime) -> Result<(), TableFault> {
-    check_rows(rt.alloc(), WINDOWS, '=', 9, result_of_row)
+    check_rows(rt.alloc(), WINDOWS, '=', 11, result_of_row)
 }

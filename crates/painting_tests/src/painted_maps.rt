@@ -7,7 +7,7 @@ use geom::{Micro, NUMBER_LIMIT, PictureSide, World, WorldBox};
 use mapdefs::{
     AllFeatures, Class, ClassFields, Feature, FeatureFields, Geometry, Items, Layer, LayerFields,
     MAX_VERTICES, Map, Part, PartList, Picture, Rgb, Rule, SharedItems, Style, StyleFields, Symbol,
-    Text, Values,
+    SymbolShape, Text, Values,
 };
 use scaledenom::Scale;
 use std::alloc::{AllocError, Global};
@@ -51,13 +51,14 @@ fn digit(letter: u8) -> u8
     }
 }
 
-// The index of a symbol, `0` or `1`.
+// The index of a symbol, `0` to `2`.
 fn symbol_of(letter: u8) -> Option<usize>
-    ensures { IfSome result (λ index. index < 2) }
+    ensures { IfSome result (λ index. index < 3) }
 {
     match letter {
         b'0' => Some(0),
         b'1' => Some(1),
+        b'2' => Some(2),
         _ => None,
     }
 }
@@ -65,7 +66,7 @@ fn symbol_of(letter: u8) -> Option<usize>
 // A style. Its letters are the colour and the colour of the outline, the digits of width and size, and the
 // index of a symbol. What is left out is `-`: no colour, no symbol, and 1.
 fn style(letters: &str) -> Style
-    ensures { NamesSymbolOf 2 result }
+    ensures { NamesSymbolOf 3 result }
 {
     let letter = |at: usize| letters.as_bytes().get(at).copied().unwrap_or(b'-');
     Style::new(StyleFields {
@@ -96,7 +97,7 @@ fn bounds(text: &str) -> Option<Bounds> {
 
 // The two styles whose letters `/` parts.
 fn styles_of(alloc: Global, letters: &str) -> Result<Items<Style>, AllocError>
-    ensures symbols { IfOk result (All (NamesSymbolOf 2)) }
+    ensures symbols { IfOk result (All (NamesSymbolOf 3)) }
     ensures count { IfOk result (λ styles. length styles ≡ 2) }
 {
     let (first, second) = letters.split_once('/').ok_or(AllocError)?;
@@ -112,7 +113,7 @@ fn classes_of(
     letters: &str,
     bounds: Bounds,
 ) -> Result<SharedItems<Class>, AllocError>
-    ensures symbols { IfOk result (All (ClassNamesSymbolsOf 2)) }
+    ensures symbols { IfOk result (All (ClassNamesSymbolsOf 3)) }
     ensures count { IfOk result (λ classes. length classes ≡ 1) }
 {
     let (min, max) = bounds;
@@ -215,9 +216,9 @@ fn layer_of(
 ) -> Layer
     requires feature { length features ≡ 1 }
     requires values { All (λ f. f.values ≡ []) features }
-    requires symbols { All (ClassNamesSymbolsOf 2) classes }
+    requires symbols { All (ClassNamesSymbolsOf 3) classes }
     requires class { length classes ≡ 1 }
-    ensures { LayerNamesSymbolsOf 2 result }
+    ensures { LayerNamesSymbolsOf 3 result }
 {
     let (min, max) = bounds;
     Layer::new(LayerFields {
@@ -245,7 +246,7 @@ fn layer_of(
 /// those for which memory is refused.
 fn layer(alloc: Global, codes: &str, feature: Feature) -> Result<Layer, AllocError>
     requires { feature.values ≡ [] }
-    ensures { IfOk result (LayerNamesSymbolsOf 2) }
+    ensures { IfOk result (LayerNamesSymbolsOf 3) }
 {
     let features = one_feature(alloc, feature)?;
     let Some((kind, letters, of_class, of_layer)) = codes_of(codes) else {
@@ -255,36 +256,42 @@ fn layer(alloc: Global, codes: &str, feature: Feature) -> Result<Layer, AllocErr
     Ok(layer_of(alloc, kind, of_layer, classes, features))
 }
 
+// A symbol that draws this.
+fn symbol(alloc: Global, shape: SymbolShape) -> Symbol {
+    Symbol {
+        name: Text::of(String::new(alloc)),
+        shape,
+    }
+}
+
 // The symbol of a pixmap's file.
-fn symbol(alloc: Global, file: &[u8]) -> Result<Symbol, AllocError> {
+fn pixmap(alloc: Global, file: &[u8]) -> Result<Symbol, AllocError> {
     match symbols::read(alloc, file) {
-        Ok(pixmap) => Ok(Symbol {
-            name: Text::of(String::new(alloc)),
-            pixmap,
-        }),
+        Ok(pixmap) => Ok(symbol(alloc, SymbolShape::Pixmap(pixmap))),
         Err(_) => Err(AllocError),
     }
 }
 
-// Two symbols: `#` and `o` above nothing and `#`; and three pixels one below another, `o`, nothing and `#`.
-fn two_symbols(alloc: Global) -> Result<SharedItems<Symbol>, AllocError>
-    ensures { IfOk result (λ symbols. length symbols ≡ 2) }
+// Three symbols: `#` and `o` above nothing and `#`; three pixels one below another, `o`, nothing and `#`; and a disc.
+fn three_symbols(alloc: Global) -> Result<SharedItems<Symbol>, AllocError>
+    ensures { IfOk result (λ symbols. length symbols ≡ 3) }
 {
     let square = b"P6 2 2 255\n\x64\x3c\x14\x0a\x14\x1e\xff\x00\xff\x64\x3c\x14";
     let column = b"P6 1 3 255\n\x0a\x14\x1e\xff\x00\xff\x64\x3c\x14";
-    let square = symbol(alloc, square)?;
-    let column = symbol(alloc, column)?;
-    SharedItems::new(alloc, Items::of(vec![in alloc; square, column]?))
+    let square = pixmap(alloc, square)?;
+    let column = pixmap(alloc, column)?;
+    let disc = symbol(alloc, SymbolShape::Disc);
+    SharedItems::new(alloc, Items::of(vec![in alloc; square, column, disc]?))
 }
 
-/// A map of four degrees by four, with these layers and two symbols.
+/// A map of four degrees by four, with these layers and three symbols.
 fn map_of(alloc: Global, layers: Items<Layer>) -> Result<Map, AllocError>
     requires count { length layers ≤ MAX_LAYERS }
-    requires symbols { All (LayerNamesSymbolsOf 2) layers }
+    requires symbols { All (LayerNamesSymbolsOf 3) layers }
     ensures layers { IfOk result (λ map. map.layers ≡ layers) }
     ensures font { IfOk result (λ map. map.font ≡ None) }
 {
-    let symbols = two_symbols(alloc)?;
+    let symbols = three_symbols(alloc)?;
     let mut fields = map_fields(alloc, layers);
     fields.symbols = symbols;
     Ok(Map::new(fields))
@@ -292,7 +299,7 @@ fn map_of(alloc: Global, layers: Items<Layer>) -> Result<Map, AllocError>
 
 // The layer with these codes and rings.
 fn layer_of_rings(alloc: Global, codes: &str, rings: &str) -> Result<Layer, AllocError>
-    ensures { IfOk result (LayerNamesSymbolsOf 2) }
+    ensures { IfOk result (LayerNamesSymbolsOf 3) }
 {
     let feature = feature(alloc, rings)?;
     layer(alloc, codes, feature)

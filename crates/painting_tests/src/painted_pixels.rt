@@ -143,7 +143,7 @@ fn lines_cover_worked_pixels(rt: HostRuntime) -> Result<(), TableFault> {
     check_rows(rt.alloc(), LINES, ';', 7, drawn_row)
 }
 
-// Points: squares of a size, and pixmaps.
+// Points: squares of a size, pixmaps, discs and rings.
 const POINTS: &str = "\
 .... .#.# .... .#.#;.;0;point #/- none;10,10 30,10 30,30 10,30
 .... .... .... ....;.;0;point -o/- none;10,10 30,10 30,30 10,30
@@ -159,11 +159,15 @@ const POINTS: &str = "\
 .o.. .... .#.. ....;.;0;point #--31/- none;15,25
 #... .... .... ....;.;0;point ----0/- none;5,35
 # what lies below is seen through a pixel of 255 0 255
-#o.. .#.. .#.. ....;.;0;point ----0/----1 none;15,25";
+#o.. .#.. .#.. ....;.;0;point ----0/----1 none;15,25
+# a disc round a corner of pixels, one round a pixel centre, and a ring over its disc
+.... .##. .##. ....;.;0;point #--22/- none;20,20
+..#. .### ..#. ....;.;0;point #--22/- none;25,25
+.oo. o##o o##o .oo.;.;0;point #o142/- none;20,20";
 
 #[test]
 fn points_cover_worked_pixels(rt: HostRuntime) -> Result<(), TableFault> {
-    check_rows(rt.alloc(), POINTS, ';', 10, drawn_row)
+    check_rows(rt.alloc(), POINTS, ';', 13, drawn_row)
 }
 
 // Bounds on the scale denominator, which is 111,319,491, of the class and of the layer.

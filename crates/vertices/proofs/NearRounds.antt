@@ -1,24 +1,27 @@
 -- Points all round a pixel that a round line covers.
-use Rattle.std.proofs.Common.{◌≡◌, ◌∙◌, ℕ, ◌*◌, ◌<◌, ◌≤◌, Bool, true, false, ◌&&◌, ◌||◌, List, [], ◌∷◌, map, take, refl, ap, sym, arith}
-use Rattle.std.proofs.lemmas.Bool.{or_from, or_parts}
+use Rattle.std.proofs.Common.{◌≡◌, ◌∙◌, ℕ, ◌+◌, ◌*◌, ◌<◌, ◌≤◌, Bool, true, false, ◌&&◌, ◌||◌, List, [], ◌∷◌, map, take, refl, ap, sym, arith}
+use Rattle.std.proofs.lemmas.Bool.{and_parts, or_from, or_parts}
 use Rattle.std.proofs.lemmas.Int.{int_max_is, int_min_is, ints}
 use Rattle.std.proofs.lemmas.List.Folds.{list_any-append}
 use Rattle.std.specs.Int.{int_max, int_min}
 use Rattle.std.specs.List.{flat_map, list_any}
 use Rattle.std.specs.Prelude.{int_le}
-use lib.IntN.{ℤ, pos, ◌+ℤ◌, ◌-ℤ◌}
-use lib.Signed.{◌<ℤ◌}
-use Rattle.geom.proofs.Products.{is_not_le, not_le_of}
-use Rattle.geom.specs.Device.{DevicePoint, pixel_centre}
+use lib.IntN.{ℤ, pos, neg_ℤ, ◌+ℤ◌, ◌-ℤ◌}
+use lib.Signed.{◌<ℤ◌, ◌≤ℤ◌}
+use Rattle.geom.proofs.Products.{is_not_le, le_of, not_le_of}
+use Rattle.geom.specs.Device.{DevicePoint, centre, pixel_centre}
 use Rattle.geom.specs.Edge.{EdgeEnds}
 use Rattle.geom.specs.World.{Place}
+use Rattle.strokes.proofs.Discs.{disc-across, disc-down}
 use Rattle.strokes.proofs.RoundBox.{not-across, not-down}
+use Rattle.strokes.specs.Disc.{DiscValue, covers_disc, is_within_half}
 use Rattle.strokes.specs.Line.{edges_of, segment_along, segments_of}
 use Rattle.strokes.specs.Round.{covers_pixel, covers_round, has_centre, is_about, point_edge, round_edges, round_line, round_segments}
 use Rattle.viewport.specs.View.{ViewValue, device_point}
 use Rattle.vertices.proofs.NearBoxes.{AreRound}
 use Rattle.vertices.proofs.NearEdges.{FailsBetween, part-fail}
 use Rattle.vertices.proofs.NearLines.{sides-round}
+use Rattle.vertices.proofs.NearShapes.{IsBy}
 
 and-left : (s t : Bool) → s ≡ false → (s && t) ≡ false
 and-left s t h = rw h refl
@@ -113,3 +116,22 @@ chain-round view margin w points i j wide column row covered =
     (chain-fails false at w i j (λ v. int_le v.x (p.x +ℤ pos (8 * w))) (right-round w p) points) (chain-fails false at w i j (λ v. int_le (p.x -ℤ pos (8 * w)) v.x) (left-round w p) points)
     (chain-fails false at w i j (λ v. int_le v.y (p.y +ℤ pos (8 * w))) (bottom-round w p) points) (chain-fails false at w i j (λ v. int_le (p.y -ℤ pos (8 * w)) v.y) (top-round w p) points)
     covered
+
+-- a disc that covers a pixel has its centre all round it
+pub disc-by : (view : ViewValue) (margin : ℕ) (d : DiscValue) (i j : ℕ) → d.size ≤ margin → i < view.width → j < view.height →
+    covers_disc d (pixel_centre (pos i) (pos j)) ≡ true → IsBy view margin d.at
+disc-by view margin d i j most column row h =
+    let p : DevicePoint = pixel_centre (pos i) (pos j) in
+    let x = within-by d.size margin view.width i d.at.x most column (passes (is_within_half d.size d.at.x p.x) (λ none. sym h ∙ disc-across d p.x p.y none)) in
+    let y = within-by d.size margin view.height j d.at.y most row (passes (is_within_half d.size d.at.y p.y) (λ none. sym h ∙ disc-down d p.x p.y none)) in
+    record { right = x.0; left = x.1; bottom = y.0; top = y.1 }
+  where
+    passes : (t : Bool) → (t ≡ false → true ≡ false) → t ≡ true
+    passes true f = refl
+    passes false f = sym (f refl)
+
+    within-by : (size margin side i : ℕ) (x : ℤ) → size ≤ margin → i < side → is_within_half size x (centre (pos i)) ≡ true →
+        (x <ℤ pos (16 * (side + margin))) × (neg_ℤ (pos (16 * margin)) ≤ℤ x)
+    within-by size margin side i x most within h =
+        let both = and_parts (int_le (x -ℤ pos (8 * size)) (centre (pos i))) (int_le (centre (pos i)) (x +ℤ pos (8 * size))) h in
+        (omega (arith, ints, le_of (x -ℤ pos (8 * size)) (centre (pos i)) both.0, most, within), omega (arith, ints, le_of (centre (pos i)) (x +ℤ pos (8 * size)) both.1, most))

@@ -31,5 +31,5 @@ returns c =
     let filled = rows-all (λ (i j : ℕ). covers_pixel s (pos i) (pos j)) (λ (i j : ℕ). pixel_at s (pos i) (pos j)) c.rows-rows.result c.loop-row.row
     c.args.canvas.now c.loop-row.canvas c.width-width.ensures.area (omega (arith, c.loop-row-test.false))
     (rw (c.width-width.ensures.value, c.height-height.ensures) at c.rows-rows.ensures.none) c.loop-row.invariant.filled in
-    painted-shape (Stamped (record { pixmap = c.args.symbol.now.pixmap; pixel = c.args.pixel })) (λ (i j : ℕ). covers_pixel s (pos i) (pos j))
+    painted-shape (Stamped (record { pixmap = c.args.pixmap.now; pixel = c.args.pixel })) (λ (i j : ℕ). covers_pixel s (pos i) (pos j))
     (λ (i j : ℕ). pixel_at s (pos i) (pos j)) c.args.canvas.now c.loop-row.canvas (λ i j. rw c.new-stamp.ensures refl) (λ i j. rw c.new-stamp.ensures refl) filled
