@@ -16,9 +16,10 @@ tools/, and of bench/results/, which says what was, the links. Looked for are
 - clauses: `name` behind the word clause;
 - each crate of crates.txt: what it depends on above it, and its line in crates/README.md below the same heading;
 - each cell of tools/rules.csv, and whether docs/developers/RULES.md is the page that it gives (lib/rules.py);
-- each heading and each code word of the five pages of rules, by which one looks for a row there (lib/lookups.py).
+- each heading and each code word of the five pages of rules, by which one looks for a row there (lib/lookups.py);
+- the date of the rules that the program prints: the day on which one of these pages changed last (lib/dated.py).
 
-With --write that page is made anew, and nothing is looked for. What a merge left in a document counts as one that isn't
+With --write RULES.md is made anew, tools/rules.date has today where a page of rules changed, and nothing is looked for. What a merge left in a document counts as one that isn't
 there. The script prints each that isn't there, with the file and the line of the document, and at the end how many names
 are there and how many aren't. It ends with 1 where one isn't.
 """
@@ -28,6 +29,7 @@ import sys
 
 sys.path.insert(0, str(pathlib.Path(__file__).resolve().parent / "lib"))
 
+import dated
 import lookups
 import mutants
 import rules
@@ -186,11 +188,13 @@ def found():
     yield from found_crates()
     yield from rules.check(CRATES)
     yield from lookups.check(rules.rows())
+    yield from dated.check()
 
 
 def main():
     if sys.argv[1:] == ["--write"]:
         rules.PAGE.write_text(rules.page())
+        dated.write()
         return
     if sys.argv[1:]:
         sys.exit(__doc__.split("\n\n")[1])
