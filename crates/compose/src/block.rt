@@ -7,6 +7,7 @@ ghost use Rattle.viewport.specs.View.{whole_of};
 ghost use Rattle.canvas.specs.Painted.{IsPainted};
 ghost use Rattle.compose.specs.Blocks.{IsBlockOf, corner_of, label_from, whole_colour};
 ghost use Rattle.compose.specs.Labels.{candidate_list, candidate_shapes, ink_list, label_shapes};
+ghost use Rattle.compose.specs.Sides.{block_columns, block_rows};
 
 use crate::drawing::Drawing;
 use crate::ink::{paint_candidate, reach_of};
@@ -34,7 +35,7 @@ pub fn draw_block<N: Near>(
     requires candidates { labels.now.candidates ≡ candidate_list (whole_of scene.now.view) scene.now.scale scene.now.map asked.now.chosen.now }
     ensures { let view = scene.now.view in
         IfOk result (IsBlockOf (whole_colour scene.now.map (whole_of view) scene.now.scale asked.now.chosen.now asked.now.background labels.now.placed)
-        (record { first = view.left; count = view.width }) (record { first = view.top; count = view.height })) }
+        (block_columns view) (block_rows view)) }
 {
     let mut drawing = Drawing::new(labels.alloc(), scene, asked.background, None)?;
     draw_chosen(&mut drawing, scene, near, asked.chosen)?;

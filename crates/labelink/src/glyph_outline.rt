@@ -64,11 +64,9 @@ impl<'a> GlyphOutline<'a> {
 
     // Whether it covers a neighbour in the same row or in the one below.
     fn covers_beside_or_below(&self, i: u16, j: u16) -> bool
-        ensures { result ≡
-            ((covers_glyph self.now (pos i -ℤ pos 1) (pos j) || covers_glyph self.now (pos (i + 1)) (pos j))
-            || (covers_glyph self.now (pos i -ℤ pos 1) (pos (j + 1))
-            || (covers_glyph self.now (pos i) (pos (j + 1))
-            || covers_glyph self.now (pos (i + 1)) (pos (j + 1))))) }
+        ensures { let covers = covers_glyph self.now in result ≡
+            ((covers (pos i -ℤ pos 1) (pos j) || covers (pos (i + 1)) (pos j))
+            || (covers (pos i -ℤ pos 1) (pos (j + 1)) || (covers (pos i) (pos (j + 1)) || covers (pos (i + 1)) (pos (j + 1))))) }
     {
         let j = i64::from(j);
         self.covers_beside(i, j) || self.covers_near(i, j + 1)
