@@ -1,3 +1,6 @@
+ghost use Rattle.std.specs.Prelude.{◌≤◌, IfSome};
+ghost use Rattle.mapdefs.specs.declared.limits.TheConstants.{MAX_FINE_SQUARE};
+
 use crate::shapes::{point, sides, three};
 use scanfill::Span;
 use std::alloc::{AllocError, Global};
@@ -5,7 +8,9 @@ use strokes::Disc;
 use test_tables::{TableFault, check_rows, numbers};
 
 // A size, and the width of a ring, as `5 1`.
-fn ring(text: &str) -> Option<(u16, u8)> {
+fn ring(text: &str) -> Option<(u16, u8)>
+    ensures { IfSome result (λ sizes. sizes.0 ≤ MAX_FINE_SQUARE) }
+{
     let [size, width] = numbers::<2>(text, ' ')?;
     Some((size.clamp(0, 1_024) as u16, width.clamp(0, 255) as u8))
 }
