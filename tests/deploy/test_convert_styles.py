@@ -163,13 +163,20 @@ class Labels(unittest.TestCase):
 
     def test_all_of_it(self):
         lines = self.label(outlinecolor=colour(40, 50, 60), outlinewidth=3, position=104, priority=7, buffer=3, mindistance=80, partials=1, force=1, size=-1)
-        self.assertEqual(lines[1:], ["OUTLINECOLOR 40 50 60", "OUTLINEWIDTH 3", "POSITION LL", "PRIORITY 7", "BUFFER 3", "MINDISTANCE 80", "PARTIALS TRUE", "FORCE TRUE"])
+        self.assertEqual(lines[1:], ["OUTLINECOLOR 40 50 60", "OUTLINEWIDTH 2", "POSITION LL", "PRIORITY 7", "BUFFER 3", "MINDISTANCE 80", "PARTIALS TRUE", "FORCE TRUE"])
         self.assertEqual(self.fonts, [("sans", 10)])
 
     def test_counts_stay_in_their_bounds(self):
         lines = self.label(outlinecolor=colour(40, 50, 60), outlinewidth=20)
         self.assertEqual(lines[2], "OUTLINEWIDTH 8")
         self.assertNotIn("OUTLINEWIDTH 2", self.label(outlinewidth=2))
+
+    def test_an_outline_reaches_as_far_as_mapservers(self):
+        for width, reach in ((2, "OUTLINEWIDTH 2"), (4, "OUTLINEWIDTH 3"), (8, "OUTLINEWIDTH 5"), (9, "OUTLINEWIDTH 5")):
+            self.assertEqual(self.label(outlinecolor=colour(40, 50, 60), outlinewidth=width)[2], reach)
+        self.assertEqual(self.label(outlinecolor=colour(40, 50, 60), outlinewidth=1)[2], "POSITION AUTO")
+
+    def test_labels_keep_their_bounds(self):
         lines = self.label(priority=12, buffer=99, mindistance=5000)
         self.assertEqual(lines[2:], ["PRIORITY 10", "BUFFER 64", "MINDISTANCE 4096"])
 

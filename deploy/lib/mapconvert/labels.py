@@ -7,6 +7,11 @@ from mapconvert.styles import colour_of
 POSITIONS = {101: "UL", 102: "LR", 103: "UR", 104: "LL", 105: "CR", 106: "CL", 107: "UC", 108: "LC", 109: "CC", 110: "AUTO"}
 
 
+def outline_width(width):
+    """How far an outline of MapServer's reaches round the letters, in whole pixels: (width + 1) / 2, a half up, 8 at most."""
+    return min(int((width + 2) / 2), 8)
+
+
 class Labels:
     """The labels of one layer, of each class the first."""
 
@@ -101,8 +106,8 @@ class Labels:
         label, place = given.getLabel(0), self.place(number, "LABEL", 0)
         lines = [f"COLOR {colour_of(label.color) or '-1 -1 -1'}"]
         lines += [f"OUTLINECOLOR {colour_of(label.outlinecolor)}"] if colour_of(label.outlinecolor) else []
-        if len(lines) == 2 and round(label.outlinewidth) > 1:
-            lines.append(f"OUTLINEWIDTH {min(round(label.outlinewidth), 8)}")
+        if len(lines) == 2 and outline_width(label.outlinewidth) > 1:
+            lines.append(f"OUTLINEWIDTH {outline_width(label.outlinewidth)}")
         position = POSITIONS.get(label.position)
         if position is None:
             self.report.changed(place, "POSITION is AUTO")
