@@ -1,7 +1,7 @@
 -- What is requested of the program, and what it has written, as its calls have them (docs/SERVICE.md, "The program").
 use Rattle.std.specs.Prelude.{Some, option_map}
+use Rattle.console.specs.Console.{WriterState}
 use Rattle.console.specs.declared.terminal.Console.{Console}
-use Rattle.console.specs.declared.terminal.Writes.{Ghosts as Writes}
 use Rattle.program.specs.Journals.{map_fingerprint}
 use Rattle.program.specs.Performing.{Begun, FingerprintedMap, Requested, RunPaths, Written}
 use Rattle.program.specs.declared.performing.RequestedService.{RequestedService}
@@ -31,13 +31,13 @@ paths_of scripted = record { mapfile = scripted.file.now; script = scripted.scri
 abbrev pub fingerprinted : ReadMap → FingerprintedMap
 fingerprinted read = record { map = read.map; fingerprint = map_fingerprint read.source.items read.files }
 
--- the output and the errors of a console, before and after
-abbrev pub written_by : {I O E : Type 0} → Writes O → Writes E → Console I O E → Console I O E → Written
+-- the output and the errors of a console, before and after, by what is known of each
+abbrev pub written_by : {I O E : Type 0} → (O → WriterState) → (E → WriterState) → Console I O E → Console I O E → Written
 written_by output errors old new = record {
-  output = output.state old.output;
-  later_output = output.state new.output;
-  errors = errors.state old.errors;
-  later_errors = errors.state new.errors;
+  output = output old.output;
+  later_output = output new.output;
+  errors = errors old.errors;
+  later_errors = errors new.errors;
 }
 
 -- a machine that is to be served with its keeper, as it begins, by these options

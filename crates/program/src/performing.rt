@@ -136,7 +136,7 @@ impl<R: Runtime, H: Host> Program<'_, R, H> {
         console: &mut Console<I, O, E>,
     ) -> Ending<H::Port, H::Log>
         ensures serves { ServesMap (⟦<H as Known<R>>⟧.view self.now.host.now) (requested_by requested.entry) (fingerprinted read) result
-            (written_by ⟦<O as Writes>⟧ ⟦<E as Writes>⟧ console.old console.new) }
+            (written_by ⟦<O as Writes>⟧.state ⟦<E as Writes>⟧.state console.old console.new) }
         ensures input { console.new.input ≡ console.old.input }
         ensures leaves { Leaves result.outcome (⟦<Console<I, O, E> as Terminal>⟧.streams console.old) (⟦<Console<I, O, E> as Terminal>⟧.streams console.new) }
     {

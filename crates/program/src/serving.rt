@@ -298,7 +298,7 @@ impl<R: Runtime, H: Host> Program<'_, R, H> {
         console: &mut Console<I, O, E>,
     ) -> Ending<H::Port, H::Log>
         ensures serves { ServesMap (⟦<H as Known<R>>⟧.view self.now.host.now) (requested_with journaled.entry) (fingerprinted read) result
-            (written_by ⟦<O as Writes>⟧ ⟦<E as Writes>⟧ console.old console.new) }
+            (written_by ⟦<O as Writes>⟧.state ⟦<E as Writes>⟧.state console.old console.new) }
         ensures input { console.new.input ≡ console.old.input }
         ensures leaves { LeavesOutput result.outcome (⟦<O as Writes>⟧.state console.old.output) (⟦<O as Writes>⟧.state console.new.output) }
         ensures reads { is_input_failed result.outcome ≡ false }
