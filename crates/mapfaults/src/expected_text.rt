@@ -7,7 +7,10 @@ fn plain_text(expected: Expected) -> &'static str {
         Expected::Geometry => "POINT, LINE or POLYGON",
         Expected::Table =>
             "the name of a file that ends in .csv: MapServer's other sources aren't supported",
-        Expected::Pixmap => "PIXMAP alone",
+        Expected::Pixmap => "PIXMAP, or ELLIPSE after a WMS_SMOOTHING above 1",
+        Expected::SymbolType => "PIXMAP or ELLIPSE",
+        Expected::Radii(_) => "1, 1 and END",
+        Expected::Filled => "TRUE alone",
         Expected::Position => "UL, UC, UR, CL, CC, CR, LL, LC, LR or AUTO",
         Expected::Flag(_) => "TRUE or FALSE",
         Expected::Scale(_) => "a number from -1000000000000 to 1000000000000",

@@ -5,7 +5,8 @@ ghost use Rattle.mapfaults.specs.Explained.{begun, stepped, IsStop, IsWalked, Is
 use crate::openings::{Opening, go_on};
 use crate::quoted::QuotedTexts;
 use maplex::{Tail, Token, Tokens};
-use maptree::{Context, Drafts, Stack};
+use maptree::{Context, Drafts};
+use mapvalues::Stack;
 use mapwords::{
     Block, Expected, Fault, Keyword, ParseFault, ParseKind, TextKeyword, fault_of, is_end, missing,
 };

@@ -30,8 +30,8 @@ fn keywords_of(block: Block) -> &'static str {
     }
 }
 
-// What is written here instead of a keyword of MapServer, which is given in capitals; nothing where there is
-// no such thing.
+// What is written here instead of a keyword of MapServer, which is given in capitals, or where it is read; nothing where
+// there is no such thing.
 fn advice_on(block: Block, keyword: &str) -> &'static str {
     match (block, keyword) {
         (_, "INCLUDE") => ": write into the mapfile what that file has",
@@ -47,12 +47,13 @@ fn advice_on(block: Block, keyword: &str) -> &'static str {
         (Block::Class, "COLOR" | "OUTLINECOLOR" | "SIZE" | "SYMBOL") => {
             ": write it into a STYLE of the CLASS"
         }
+        (Block::Symbol, "POINTS" | "FILLED") => ", but for a disc after a WMS_SMOOTHING above 1",
         _ => "",
     }
 }
 
 /// What follows the message on a keyword of MapServer that isn't read in a block: what is written instead, after
-/// a colon, or nothing. There is none where MapServer has no such keyword there.
+/// a colon, where it is read, or nothing. There is none where MapServer has no such keyword there.
 pub fn advice(alloc: Global, block: Block, word: &str) -> Result<Option<&'static str>, AllocError> {
     let keyword = word.to_ascii_uppercase(alloc)?;
     let keyword = keyword.as_str();

@@ -2,7 +2,8 @@ ghost use Rattle.std.specs.Prelude.{◌≡◌, OnOk};
 ghost use Rattle.mapfaults.specs.Opening.{opened, opening, opens_block};
 
 use maplex::Token;
-use maptree::{Context, Move, Stack};
+use maptree::{Context, Move};
+use mapvalues::Stack;
 use std::alloc::AllocError;
 use std::marker::Model;
 

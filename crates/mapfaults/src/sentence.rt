@@ -153,9 +153,13 @@ fn no_expression(alloc: Global, token: &Token, shown: &str) -> Result<String, Al
     format!(in alloc; "{shown} is no expression: nothing is read from {rest} on")
 }
 
-// The message on the END of a MAP that isn't as its styles and labels need it.
+// The message on the END of a MAP that isn't as its styles, discs and labels need it.
 fn wrong_map(alloc: Global, missing: Option<&str>) -> Result<String, AllocError> {
     match missing {
+        Some("WMS_SMOOTHING") => String::from_str(
+            alloc,
+            "this WMS_SMOOTHING smooths nothing, and a SYMBOL of TYPE ELLIPSE needs one above 1",
+        ),
         Some(_) => String::from_str(alloc, "this SYMBOL names no symbol of MAP"),
         None => {
             format!(in alloc;
@@ -188,6 +192,9 @@ fn wrong_value(
         Context::Keywords(Block::Layer) => {
             String::from_str(alloc, "DATA needs a LAYER of TYPE POINT")
         }
+        Context::Keywords(Block::Symbol) => {
+            String::from_str(alloc, "IMAGE needs a SYMBOL of TYPE PIXMAP")
+        }
         Context::Keywords(_) => format!(in alloc; "{token} is no key of {name}"),
     }
 }
@@ -199,7 +206,8 @@ fn no_value(alloc: Global, expected: Expected, name: &str) -> Result<String, All
         | Expected::Blue(..)
         | Expected::South(..)
         | Expected::East(..)
-        | Expected::North(..) => format!(in alloc; "{name} has too few values"),
+        | Expected::North(..)
+        | Expected::Radii(1) => format!(in alloc; "{name} has too few values"),
         Expected::Unused(_) => format!(in alloc; "{name} lacks a value"),
         _ => format!(in alloc; "{name} has no value"),
     }

@@ -43,7 +43,12 @@ sound|MAP END
 2: RASTER is no value of TYPE, which takes POINT, LINE or POLYGON|MAP LAYER TYPE~RASTER
 2: p.txt is no value of DATA, which takes the name of a file that ends in .csv: MapServer's other sources aren't supported|MAP LAYER DATA~p.txt
 2: DATA needs a LAYER of TYPE POINT|MAP LAYER NAME a TYPE LINE DATA~p.csv~END END
-2: VECTOR is no value of TYPE, which takes PIXMAP alone|MAP SYMBOL TYPE~VECTOR
+2: VECTOR is no value of TYPE, which takes PIXMAP, or ELLIPSE after a WMS_SMOOTHING above 1|MAP SYMBOL TYPE~VECTOR
+2: VECTOR is no value of TYPE, which takes PIXMAP or ELLIPSE|MAP CONFIG WMS_SMOOTHING 2 SYMBOL TYPE~VECTOR
+2: 2 is no value of POINTS, which takes 1, 1 and END|MAP CONFIG WMS_SMOOTHING 2 SYMBOL POINTS 1~2
+2: FALSE is no value of FILLED, which takes TRUE alone|MAP CONFIG WMS_SMOOTHING 2 SYMBOL FILLED~FALSE
+2: IMAGE needs a SYMBOL of TYPE PIXMAP|MAP CONFIG WMS_SMOOTHING 2 SYMBOL NAME a TYPE ELLIPSE POINTS 1 1 END FILLED TRUE IMAGE~b~END
+2: this WMS_SMOOTHING smooths nothing, and a SYMBOL of TYPE ELLIPSE needs one above 1|MAP CONFIG WMS_SMOOTHING 2 SYMBOL NAME a TYPE ELLIPSE POINTS 1 1 END FILLED TRUE END CONFIG WMS_SMOOTHING~1 END
 2: 257 is no value of SIZE, which takes a count from 1 to 256|MAP LAYER CLASS STYLE SIZE~257
 2: 65 is no value of TOLERANCE, which takes a count from 0 to 64|MAP LAYER TOLERANCE~65
 2: 65 is no value of BUFFER, which takes a count from 0 to 64|MAP LAYER CLASS LABEL BUFFER~65
@@ -78,11 +83,15 @@ sound|MAP END
 3: SYMBOL of line 2 has no NAME|MAP SYMBOL NAME a TYPE PIXMAP IMAGE b END~SYMBOL TYPE PIXMAP IMAGE b~END
 3: SYMBOL of line 2 has no TYPE|MAP SYMBOL NAME a TYPE PIXMAP IMAGE b END~SYMBOL IMAGE b NAME c~END
 3: SYMBOL of line 2 has no IMAGE|MAP SYMBOL NAME a TYPE PIXMAP IMAGE b END~SYMBOL NAME c~TYPE PIXMAP END
+3: SYMBOL of line 2 has no POINTS|MAP CONFIG WMS_SMOOTHING 2~SYMBOL NAME c TYPE ELLIPSE FILLED TRUE~END
+3: SYMBOL of line 2 has no FILLED|MAP CONFIG WMS_SMOOTHING 2~SYMBOL NAME c TYPE ELLIPSE POINTS 1 1 END~END
 4: POINTS of line 3 has no vertex|MAP LAYER FEATURE~POINTS 1 2 END~POINTS~END
 3: the last vertex of POINTS of line 2 has no latitude|MAP LAYER FEATURE~POINTS 1 2~3 END
 2: NAME has no value|MAP LAYER~NAME END
 2: wms_title has no value|MAP WEB METADATA a b wms_title~END
 2: COLOR has too few values|MAP LAYER CLASS STYLE COLOR 1~END
+2: POINTS has no value|MAP CONFIG WMS_SMOOTHING 2 SYMBOL POINTS~END
+2: POINTS has too few values|MAP CONFIG WMS_SMOOTHING 2 SYMBOL POINTS 1~END
 2: EXTENT has too few values|MAP EXTENT 1 2~END
 2: SIZE lacks a value|MAP SIZE 9~END
 4: CLASS of line 3 has one LABEL too many|MAP LAYER~CLASS LABEL END END~CLASS LABEL END~LABEL END
@@ -111,7 +120,7 @@ sound|MAP END
 2: METADATA is MapServer's and isn't supported|MAP LAYER CLASS~METADATA 'a' 'b' END
 2: ANGLE is MapServer's and isn't supported|MAP LAYER CLASS STYLE~ANGLE 30
 2: TEXT is MapServer's and isn't supported: name an item by LABELITEM in the LAYER|MAP LAYER CLASS LABEL~TEXT 'a'
-2: FILLED is MapServer's and isn't supported|MAP SYMBOL~FILLED TRUE
+2: FILLED is MapServer's and isn't supported, but for a disc after a WMS_SMOOTHING above 1|MAP SYMBOL~FILLED TRUE
 2: WKT is MapServer's and isn't supported: write POINTS blocks|MAP LAYER FEATURE~WKT 'a'
 2: TEMPPATH is MapServer's and isn't supported|MAP WEB~TEMPPATH 'a'
 2: OPAC is no keyword of LAYER|MAP LAYER~OPAC 50
@@ -140,7 +149,7 @@ sound|MAP END
 
 #[test]
 fn faults_are_explained(rt: HostRuntime) -> Result<(), TableFault> {
-    check_rows(rt.alloc(), ROWS, '|', 108, explanation_of_row)
+    check_rows(rt.alloc(), ROWS, '|', 117, explanation_of_row)
 }
 
 // The result for sources with a block, a vertex or an item more than a map may have.

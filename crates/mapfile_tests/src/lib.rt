@@ -5,6 +5,8 @@
 #[cfg(test)]
 mod block_keywords;
 #[cfg(test)]
+mod discs;
+#[cfg(test)]
 mod explained;
 #[cfg(test)]
 mod faults;

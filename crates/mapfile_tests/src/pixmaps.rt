@@ -95,7 +95,8 @@ p 1 by 2,:a.ppm,~MAP SYMBOL TRANSPARENT 3 ANCHORPOINT 0.5 1 NAME p TYPE PIXMAP I
 3 MissingFile:a.ppm,none.ppm,bad.ppm,~MAP SYMBOL NAME p TYPE PIXMAP|IMAGE a.ppm END SYMBOL NAME q TYPE PIXMAP|IMAGE none.ppm END SYMBOL NAME r TYPE PIXMAP|IMAGE bad.ppm END END
 3 UnknownWord:3 UnknownWord~MAP SYMBOL NAME p TYPE PIXMAP|IMAGE none.ppm END END|END";
 
-fn made_and_used(alloc: Global, row: &str) -> Result<String, AllocError> {
+// What a source makes, and the files that it uses.
+pub fn made_and_used(alloc: Global, row: &str) -> Result<String, AllocError> {
     let source = written(alloc, row)?;
     let made = made(alloc, source.as_str())?;
     with_used_files(alloc, made.as_str(), source.as_str())

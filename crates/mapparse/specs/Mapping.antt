@@ -21,15 +21,16 @@ use Rattle.mapwords.specs.declared.fault.Fault.{Fault}
 use Rattle.mapdefs.specs.Outcome.{and_then}
 use Rattle.mapwords.specs.declared.table.TextKeyword.{TextKeyword}
 use Rattle.mapwords.specs.declared.table.TextKeyword.TheVariants.{Name, ClassItem, LabelItem, Template, WmsTitle, OwsTitle, WmsOnlineResource, OwsOnlineResource}
-use Rattle.mapwords.specs.declared.table.CountKeyword.TheVariants.{Width, Size, Tolerance, Priority, Buffer, MinDistance, Smoothing}
+use Rattle.mapwords.specs.declared.table.CountKeyword.TheVariants.{Width, Size, Tolerance, Priority, Buffer, MinDistance}
 use Rattle.mapwords.specs.declared.table.FlagKeyword.TheVariants.{Partials, Force, Png, Mercator}
 use Rattle.mapwords.specs.declared.table.ScaleKeyword.TheVariants.{Min, Max}
 use Rattle.mapwords.specs.declared.table.ColourKeyword.{ColourKeyword}
 use Rattle.mapwords.specs.declared.table.ColourKeyword.TheVariants.{Color, OutlineColor}
 use Rattle.mapwords.specs.declared.value.Value.{Value}
 use Rattle.maptree.specs.Outline.{outline_width_of}
+use Rattle.maptree.specs.Smoothing.{factor_in}
 use Rattle.maptree.specs.Symbol.{symbol_of}
-use Rattle.maptree.specs.Values.{colour_in, count_in, extent_in, flag_in, items_in, last, position_in, rule_in, scale_in, text_in, words_in}
+use Rattle.mapvalues.specs.Values.{colour_in, count_in, extent_in, flag_in, items_in, last, position_in, rule_in, scale_in, text_in, words_in}
 use Rattle.maptree.specs.declared.tree.ClassTree.{ClassTree}
 use Rattle.maptree.specs.declared.tree.FeatureTree.{FeatureTree}
 use Rattle.maptree.specs.declared.tree.LayerTree.{LayerTree}
@@ -163,7 +164,7 @@ map_with symbols tables font tree = record {
   extent = unwrap_or (last extent_in tree.values) whole_world;
   png = unwrap_or (last (flag_in Png) tree.values) false;
   mercator = unwrap_or (last (flag_in Mercator) tree.values) false;
-  smoothing = unwrap_or (last (count_in Smoothing) tree.values) 1;
+  smoothing = factor_in tree.values;
   font = font;
   symbols = symbols;
   layers = map (layer_of symbols) (zip tree.layers tables);

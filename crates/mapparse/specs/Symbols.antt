@@ -28,9 +28,14 @@ symbol_index symbols named = option_and_then (λ (n : Named). last_named n.text 
 abbrev pub pixmap_in : List FileBytes → Named → Result PixmapFields Fault
 pixmap_in files image = read_from pixmap_of image.line (bytes_in image.text files)
 
--- what a symbol draws: the pixmap of its image
+-- what a symbol draws: the pixmap of its image, and without one a disc
+abbrev pub shape_of : List FileBytes → Option Named → Result SymbolShape Fault
+shape_of files None = Ok symbol.Disc
+shape_of files (Some image) = and_then (pixmap_in files image) (λ pixmap. Ok (symbol.Pixmap pixmap))
+
+-- what the symbol of a tree draws
 abbrev pub shape_in : List FileBytes → SymbolTree → Result SymbolShape Fault
-shape_in files tree = and_then (pixmap_in files tree.image) (λ pixmap. Ok (symbol.Pixmap pixmap))
+shape_in files tree = shape_of files tree.image
 
 -- the symbols of a map with what they draw, or the fault of the first whose image is no pixmap
 abbrev pub symbols_of : List FileBytes → List SymbolTree → Result (List Symbol) Fault

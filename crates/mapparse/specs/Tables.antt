@@ -13,7 +13,7 @@ use Rattle.maptree.specs.declared.tree.LayerTree.{LayerTree}
 use Rattle.mapwords.specs.declared.named.Named.{Named}
 use Rattle.mapwords.specs.declared.table.TextKeyword.TheVariants.{CsvX, CsvY}
 use Rattle.mapwords.specs.declared.value.Value.{Value}
-use Rattle.maptree.specs.Values.{last, words_in}
+use Rattle.mapvalues.specs.Values.{last, words_in}
 use Rattle.mapparse.specs.declared.files.FileBytes.{FileBytes}
 use Rattle.mapparse.specs.Files.{bytes_in, read_from}
 

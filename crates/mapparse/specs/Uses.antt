@@ -12,7 +12,7 @@ use Rattle.maptree.specs.declared.tree.MapTree.{MapTree}
 use Rattle.mapwords.specs.declared.named.Named.{Named}
 use Rattle.maptree.specs.declared.tree.SymbolTree.{SymbolTree}
 use Rattle.maptree.specs.Symbol.{first_fault}
-use Rattle.maptree.specs.Values.{last, text_in}
+use Rattle.mapvalues.specs.Values.{last, text_in}
 use Rattle.mapwords.specs.declared.table.TextKeyword.TheVariants.{LabelFont}
 use Rattle.symbols.specs.Format.{pixmap_of}
 use Rattle.mapparse.specs.declared.fault.FileCause.{FileCause}
@@ -53,14 +53,14 @@ first_uses tree = uses_after [] (with_font (font_file tree) tree.before_font tre
 abbrev pub uses_of : MapTree → List (List ℕ)
 uses_of tree = map (λ (file : Named). file.text) (first_uses tree)
 
--- a symbol has the file of this name as its image, but its bytes are no pixmap
-abbrev pub lacks_pixmap : List ℕ → List ℕ → SymbolTree → Bool
-lacks_pixmap name bytes symbol = is_same_name symbol.image.text name && is_err (pixmap_of bytes)
-
 -- a file is named, and has this name
 abbrev pub is_named : List ℕ → Option Named → Bool
 is_named name None = false
 is_named name (Some file) = is_same_name file.text name
+
+-- a symbol has the file of this name as its image, but its bytes are no pixmap
+abbrev pub lacks_pixmap : List ℕ → List ℕ → SymbolTree → Bool
+lacks_pixmap name bytes symbol = is_named name symbol.image && is_err (pixmap_of bytes)
 
 -- a layer has its table in the file of this name, but its bytes are no table for it
 abbrev pub lacks_table : List ℕ → List ℕ → LayerTree → Bool
@@ -88,16 +88,16 @@ refuses tree name bytes (NoFont fault) =
 abbrev pub is_same_use : Named → Named → Bool
 is_same_use a b = a.line == b.line && is_same_name a.text b.text
 
--- the font is used there
-abbrev pub is_font_use : Named → Option Named → Bool
-is_font_use there None = false
-is_font_use there (Some font) = is_same_use font there
+-- a file is named, and it is there
+abbrev pub is_used_there : Named → Option Named → Bool
+is_used_there there None = false
+is_used_there there (Some file) = is_same_use file there
 
 -- the keyword that names a file there
 abbrev pub keyword_of : MapTree → Named → Keyword
 keyword_of tree there =
-    if list_any (λ (symbol : SymbolTree). is_same_use symbol.image there) tree.symbols then Image
-    else (if is_font_use there (font_file tree) then Config else Data)
+    if list_any (λ (symbol : SymbolTree). is_used_there there symbol.image) tree.symbols then Image
+    else (if is_used_there there (font_file tree) then Config else Data)
 
 -- the keyword of the use that a cause is about: of a missing file that of its first use
 abbrev pub keyword_by : MapTree → Named → FileCause → Keyword

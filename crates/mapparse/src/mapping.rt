@@ -8,8 +8,6 @@ ghost use Rattle.mapdefs.specs.declared.class.Rule.TheVariants.{Always};
 ghost use Rattle.mapparse.specs.Mapping.{painted, label_of, class_of, layer_of, whole_world, map_with, made_of, map_of};
 ghost use Rattle.mapparse.specs.Fonts.{font_given};
 ghost use Rattle.maptree.specs.Outline.{outline_width_of};
-ghost use Rattle.maptree.specs.Values.{count_in, last};
-ghost use Rattle.mapwords.specs.declared.table.CountKeyword.TheVariants.{Smoothing};
 ghost use Rattle.mapparse.specs.Uses.{font_file};
 ghost use Rattle.mapparse.specs.Symbols.{symbols_of};
 ghost use Rattle.mapparse.specs.Tables.{tables_of, HasRoom, HaveRoom};
@@ -22,15 +20,16 @@ use crate::symbol::{symbol_index, symbols_of};
 use crate::table::tables_of;
 use crate::uses::{files_fault, font_file};
 use csvpoints::Table;
-use geom::{Factor, Micro, WorldBox};
+use geom::{Micro, WorldBox};
 use mapdefs::{
     Class, ClassFields, Font, Items, Label, LabelFields, Layer, LayerFields, MAX_CLASSES, Map,
     MapFields, Position, Rgb, Rule, Shared, SharedItems, Style, StyleFields, Symbol,
 };
 use maptree::{
-    Capped, ClassRule, ClassTree, Extent, LayerBody, LayerTree, MapTree, Named, ParseFault, Values,
-    outline_width_of, symbol_of,
+    Capped, ClassRule, ClassTree, Extent, LayerBody, LayerTree, MapTree, Named, ParseFault,
+    factor_in, outline_width_of, symbol_of,
 };
+use mapvalues::Values;
 use mapwords::{ColourKeyword, CountKeyword, FlagKeyword, ScaleKeyword};
 use std::alloc::{AllocError, Global};
 
@@ -249,13 +248,6 @@ fn area_of(extent: Option<&Extent>) -> WorldBox
     }
 }
 
-// How many times as fine the pictures are of which a map's pictures are the means.
-fn smoothing_of(values: &Values) -> Factor
-    ensures { result ≡ unwrap_or (last (count_in Smoothing) values.now) 1 }
-{
-    Factor::of(count_or(values, CountKeyword::Smoothing, 1) as u8)
-}
-
 // What the files of a mapfile are read as: the pixmaps of its symbols, the tables of its layers, and its font.
 #[derive(Drop)]
 struct FileParts {
@@ -290,7 +282,7 @@ fn map_with(tree: MapTree, parts: FileParts, alloc: Global) -> Result<Map, Alloc
         extent: area_of(values.extent()),
         png: values.flag(FlagKeyword::Png).unwrap_or(false),
         mercator: values.flag(FlagKeyword::Mercator).unwrap_or(false),
-        smoothing: smoothing_of(&values),
+        smoothing: factor_in(&values),
         font,
         symbols,
         layers,

@@ -2,12 +2,12 @@ ghost use Rattle.std.specs.Prelude.{◌≡◌, ◌≤◌, option_map, unwrap_or,
 ghost use Rattle.mapdefs.specs.declared.limits.TheConstants.{MAX_TOLERANCE};
 ghost use Rattle.mapwords.specs.Table.{least_of, most_of};
 ghost use Rattle.mapwords.specs.declared.table.TextKeyword.TheVariants.{OwsOnlineResource, WmsOnlineResource};
-ghost use Rattle.maptree.specs.Values.{count_in, last, words_in};
+ghost use Rattle.mapvalues.specs.Values.{count_in, last, words_in};
 ghost use Rattle.mapparse.specs.Mapping.{either_text, empty_layer, service_title, tolerance_of};
 
 use crate::table::{LATITUDES, LONGITUDES};
 use mapdefs::{Duplicate, Geometry, Items, LayerFields, SharedItems, Text};
-use maptree::Values;
+use mapvalues::Values;
 use mapwords::{CountKeyword, ScaleKeyword, TextKeyword};
 use std::alloc::{AllocError, Global};
 

@@ -58,8 +58,10 @@ fn shape_in(tree: &SymbolTree, files: &Files, alloc: Global) -> Result<SymbolSha
     ensures shape { IfOk result (λ shape. shape_in files.now tree.now ≡ Ok shape) }
     ensures fault { IfErr result (IsFaultOf (shape_in files.now tree.now)) }
 {
-    let pixmap = pixmap_in(files, &tree.image, alloc)?;
-    Ok(SymbolShape::Pixmap(pixmap))
+    match &tree.image {
+        Some(image) => Ok(SymbolShape::Pixmap(pixmap_in(files, image, alloc)?)),
+        None => Ok(SymbolShape::Disc),
+    }
 }
 
 // The symbol of a tree.

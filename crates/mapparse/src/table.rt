@@ -2,7 +2,7 @@ ghost use Rattle.std.specs.Prelude.{◌≡◌, ◌+◌, ◌≤◌, length, unwra
 ghost use Rattle.csvpoints.specs.Fault.{IsFaultOf as IsCsvFaultOf};
 ghost use Rattle.mapdefs.specs.declared.limits.TheConstants.{MAX_FEATURES};
 ghost use Rattle.mapwords.specs.Fault.{IsFaultOf};
-ghost use Rattle.maptree.specs.Values.{last, words_in};
+ghost use Rattle.mapvalues.specs.Values.{last, words_in};
 ghost use Rattle.mapparse.specs.Tables.{table_for, table_in, table_given, tables_of, HasRoom, HaveRoom};
 
 use crate::files::Files;

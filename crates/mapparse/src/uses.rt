@@ -2,7 +2,7 @@ ghost use Rattle.std.specs.Prelude.{◌≡◌, [], true, Some, take, drop, is_so
 ghost use Rattle.std.specs.List.{list_any};
 ghost use Rattle.mapwords.specs.declared.fault.ParseKind.TheVariants.{BadFile};
 ghost use Rattle.mapparse.specs.Fault.{kind_of, fault_in};
-ghost use Rattle.mapparse.specs.Uses.{is_among, with_use, uses_after, with_font, font_file, first_uses, uses_of, is_named, lacks_pixmap, lacks_table, lacks_font, is_bad, refuses, is_same_use, keyword_of, keyword_by, file_fault, files_fault, IsOfUse};
+ghost use Rattle.mapparse.specs.Uses.{is_among, with_use, uses_after, with_font, font_file, first_uses, uses_of, is_named, lacks_pixmap, lacks_table, lacks_font, is_bad, refuses, is_same_use, is_used_there, keyword_of, keyword_by, file_fault, files_fault, IsOfUse};
 ghost use Rattle.mapparse.specs.Files.{bytes_in};
 
 use crate::fault::{FileCause, FileFault};
@@ -124,7 +124,7 @@ fn pixmap_fault(
     ensures { IfOk result (λ found. is_some found ≡ list_any (lacks_pixmap name.now bytes.now) symbols.now) }
 {
     for symbol in symbols {
-        if symbol.image.text.as_str() == name {
+        if is_named(name, &symbol.image) {
             match read(alloc, bytes) {
                 Ok(_) => {}
                 Err(PixFault::NoMemory) => return Err(AllocError),
@@ -215,13 +215,23 @@ fn is_same_use(a: &Named, b: &Named) -> bool
     a.line == b.line && a.text.as_str() == b.text.as_str()
 }
 
+// Whether a file is named, and that there.
+fn is_used_there(file: &Named, named: &Option<Named>) -> bool
+    ensures { result ≡ is_used_there file.now named.now }
+{
+    match named {
+        Some(named) => is_same_use(named, file),
+        None => false,
+    }
+}
+
 // Whether the image of some symbol is named there.
 fn is_image_use(file: &Named, symbols: &[SymbolTree]) -> bool
-    ensures { result ≡ list_any (λ symbol. is_same_use symbol.image file.now) symbols.now }
+    ensures { result ≡ list_any (λ symbol. is_used_there file.now symbol.image) symbols.now }
 {
     symbols
         .iter()
-        .any(|symbol| is_same_use(&symbol.image, file))
+        .any(|symbol| is_used_there(file, &symbol.image))
 }
 
 // The keyword that names a file there.

@@ -1,7 +1,6 @@
 mod Blocks
 mod FirstFault
 pub mod Joining
-mod Lasts
 pub mod OnePass
 mod OpenBlocks
 mod Reading

@@ -23,10 +23,11 @@ use Rattle.mapwords.specs.declared.value.Value.{Value}
 use Rattle.mapwords.specs.declared.value.ValueStep.{ValueStep}
 use Rattle.mapwords.specs.declared.value.ValueStep.TheVariants.{More, Whole}
 use Rattle.mapwords.specs.Setting.{web_expects, layer_expects}
+use Rattle.mapwords.specs.Symbol.{is_early_end}
 use Rattle.maptree.specs.Draft.{noted, with_value}
 use Rattle.maptree.specs.Draft as draft
 use Rattle.maptree.specs.End.{ends}
-use Rattle.maptree.specs.Entries.{Entries, Nothing, Said, Vertex, has_effect, with_said, with_block, vertex_count}
+use Rattle.maptree.specs.Entries.{Entries, Nothing, Said, Vertex, has_effect, values, with_said, with_block, vertex_count}
 use Rattle.mapwords.specs.Fault.{fault_of, refused}
 use Rattle.mapdefs.specs.Outcome.{and_then}
 use Rattle.mapwords.specs.Keyword.{keyword_at, is_at, is_end}
@@ -36,10 +37,11 @@ use Rattle.maptree.specs.Meaning.{latitude_in, block_in, map_in}
 use Rattle.maptree.specs.Pass as pass
 use Rattle.maptree.specs.Pass.{reads, passed}
 use Rattle.maptree.specs.Says.{Saying, Ends, Opens, Takes, Longitude, Skips, closing_fault, ends_unless, is_full, role_says, says, vertex_says, skipped_says}
+use Rattle.maptree.specs.Smoothing.{is_smooth}
 use Rattle.maptree.specs.Step.{read_end, read_role, note_step, coordinate_at, skip, read_token}
 use Rattle.maptree.specs.Tree.{map_tree}
 use Rattle.mapwords.specs.Value.{is_value, value_step, coordinate_in}
-use Rattle.maptree.proofs.OpenBlocks.{OpenBlocks, only_map, metadata-ends, drafts_of, in_block, above, after_end, Nests, Fits, fits-option, Frees, projection-frees, skipped-frees, label-frees, same-room, unless_fault, same-end}
+use Rattle.maptree.proofs.OpenBlocks.{OpenBlocks, only_map, metadata-ends, drafts_of, in_block, above, after_end, Nests, Fits, fits-option, fits-symbol_option, Frees, projection-frees, skipped-frees, label-frees, same-room, unless_fault, same-end}
 use Rattle.maptree.proofs.Reading.{Ended, LeavesAtMost, read_after, reads-at_most, reads-enough}
 
 -- what is read of a block
@@ -88,7 +90,7 @@ at-most : (tail : Tail) (k : ℕ) (e : Expected) (ts : List TokenValue) → leng
 unfolding value_in
 at-most tail k e [] p = tt
 at-most tail k e (t ∷ ts) p =
-    left-step tail t ts k (λ next. at-most tail k next ts (omega arith)) (omega arith) (is_end t) (value_step e t)
+    left-step tail t ts k (λ next. at-most tail k next ts (omega arith)) (omega arith) (is_early_end e t) (value_step e t)
 
 pub value-left : (tail : Tail) (e : Expected) (ts : List TokenValue) → IfOk (value_in tail e ts) (λ v. length v.rest ≤ length ts)
 value-left tail e ts = at-most tail (length ts) e ts (omega arith)
@@ -113,7 +115,7 @@ reads-value tail zero b e d [] p = refl
 reads-value tail (suc n) b e d [] p = refl
 reads-value tail zero b e d (t ∷ ts) p = absurd (omega arith)
 reads-value tail (suc n) b e d (t ∷ ts) p =
-    value-step tail n b (λ next c us. reads-value tail n b next c us) e d t ts (is_end t) (value_step e t) (omega arith)
+    value-step tail n b (λ next c us. reads-value tail n b next c us) e d t ts (is_early_end e t) (value_step e t) (omega arith)
 
 same-next : {X Y : Type 0} (r : Result X Fault) (f g : X → Result Y Fault) → ((x : X) → f x ≡ g x) → and_then r f ≡ and_then r g
 same-next (Ok x) f g p = p x
@@ -311,7 +313,7 @@ module _ (tail : Tail) (n : ℕ) (below : (b : Block) (up own : Entries) (o : Op
   token-here block.Layer up own o t ts p q = role-here block.Layer up own o t ts q p _ (fits-option block.Layer (keyword_at t))
   token-here block.Class up own o t ts p q = role-here block.Class up own o t ts q p _ (fits-option block.Class (keyword_at t))
   token-here block.Style up own o t ts p q = role-here block.Style up own o t ts q p _ (fits-option block.Style (keyword_at t))
-  token-here block.Symbol up own o t ts p q = role-here block.Symbol up own o t ts q p _ (fits-option block.Symbol (keyword_at t))
+  token-here block.Symbol up own o t ts p q = role-here block.Symbol up own o t ts q p _ (fits-symbol_option (is_smooth (values o.map)) (keyword_at t))
   token-here block.Web up own o t ts p q = role-here block.Web up own o t ts q p _ (fits-option block.Web (keyword_at t))
   token-here block.Label up own o t ts p q = role-here block.Label up own o t ts q p _ (fits-option block.Label (keyword_at t))
   token-here block.Feature up own o t ts p q = role-here block.Feature up own o t ts q p _ (fits-option block.Feature (keyword_at t))

@@ -21,19 +21,19 @@ use Rattle.mapwords.specs.declared.keyword.Keyword.{Keyword}
 use Rattle.mapwords.specs.declared.keyword.Keyword.TheVariants as keyword
 use Rattle.maptree.specs.declared.tree.LayerTree.{LayerTree}
 use Rattle.maptree.specs.declared.tree.SymbolTree.{SymbolTree}
-use Rattle.maptree.specs.Data.{table_fault, with_table}
+use Rattle.maptree.specs.Data.{table_fault, with_named_file}
 use Rattle.maptree.specs.Draft as draft
-use Rattle.maptree.specs.End.{layer_with, finished_layer, symbol_with, ends}
+use Rattle.maptree.specs.End.{layer_with, finished_layer, ends}
 use Rattle.maptree.specs.End as end
 use Rattle.maptree.specs.Outline.{map_fault}
-use Rattle.maptree.specs.Symbol.{symbol_fault}
+use Rattle.maptree.specs.Symbol.{no_name, symbol_fault, symbol_with}
 use Rattle.maptree.specs.Entries.{Entries, Nothing, Inside, with_block, values, blocks, last_block, vertices}
 use Rattle.mapdefs.specs.Outcome.{and_then}
 use Rattle.maptree.specs.Name.{is_taken}
 use Rattle.maptree.specs.Says.{layer_end_fault, closing_fault, is_full}
-use Rattle.mapwords.specs.Table.{map_role, web_role, symbol_role, layer_role, class_role, style_role, label_role, feature_role, skipped_role, skipped_label_role, end_role, role_of}
-use Rattle.maptree.specs.Tree.{class_tree, feature_tree, layer_body, layer_tree, no_name, symbol_tree, files_used, map_tree}
-use Rattle.maptree.specs.Values.{geometry_in, has_pixmap, last, text_in, words_in}
+use Rattle.mapwords.specs.Table.{map_role, web_role, symbol_role, smooth_symbol_role, layer_role, class_role, style_role, label_role, feature_role, skipped_role, skipped_label_role, end_role, role_in, role_of}
+use Rattle.maptree.specs.Tree.{class_tree, feature_tree, layer_body, layer_tree, symbol_tree, files_used, map_tree}
+use Rattle.mapvalues.specs.Values.{geometry_in, last, text_in, words_in}
 
 -- what the open blocks say so far; a block that isn't open says nothing
 pub record OpenBlocks : Type 0 where
@@ -163,6 +163,10 @@ fits-symbol : (k : Keyword) → Fits block.Symbol (symbol_role k)
 fits-symbol keyword.End = tt
 fits-symbol _ = tt
 
+fits-smooth_symbol : (k : Keyword) → Fits block.Symbol (smooth_symbol_role k)
+fits-smooth_symbol keyword.End = tt
+fits-smooth_symbol _ = tt
+
 fits-layer : (k : Keyword) → Fits block.Layer (layer_role k)
 fits-layer keyword.Metadata = nests (λ own o. refl) (λ own o. refl) (λ inner own o. refl)
 fits-layer keyword.Class = nests (λ own o. refl) (λ own o. refl) (λ inner own o. refl)
@@ -225,6 +229,15 @@ fits block.Projection k = fits-end block.Projection k
 pub fits-option : (b : Block) (k : Option Keyword) → Fits b (option_and_then (role_of b) k)
 fits-option b None = tt
 fits-option b (Some k) = fits b k
+
+-- a SYMBOL of a map that is smoothed, or isn't
+fits-symbol_in : (smooth : Bool) (k : Keyword) → Fits block.Symbol (role_in block.Symbol smooth k)
+fits-symbol_in true k = fits-smooth_symbol k
+fits-symbol_in false k = fits-symbol k
+
+pub fits-symbol_option : (smooth : Bool) (k : Option Keyword) → Fits block.Symbol (option_and_then (role_in block.Symbol smooth) k)
+fits-symbol_option smooth None = tt
+fits-symbol_option smooth (Some k) = fits-symbol_in smooth k
 
 -- a block that may open inside one that is skipped has no limit
 abbrev pub Frees : Option Role → Type 0
@@ -301,13 +314,10 @@ unless-same : (fault : Option Fault) (d : Drafts) → end.unless_fault fault d �
 unless-same None d = refl
 unless-same (Some f) d = refl
 
-symbol-ends : (with_symbol : SymbolTree → Drafts) (t : TokenValue) (name : Option Named) (pixmap : Bool) (image : Option Named) →
-    and_then (symbol_with name pixmap image t) (λ made. Ok (with_symbol made))
-    ≡ unless_fault (symbol_fault name pixmap image t) (with_symbol (record { name = unwrap_or name no_name; image = unwrap_or image no_name }))
-symbol-ends with_symbol t (Some name) true (Some image) = refl
-symbol-ends with_symbol t (Some name) true None = refl
-symbol-ends with_symbol t (Some name) false image = refl
-symbol-ends with_symbol t None pixmap image = refl
+symbol-ends : (with_symbol : SymbolTree → Drafts) (symbol : SymbolTree) (fault : Option Fault) →
+    and_then (end.unless_fault fault symbol) (λ made. Ok (with_symbol made)) ≡ unless_fault fault (with_symbol symbol)
+symbol-ends with_symbol symbol None = refl
+symbol-ends with_symbol symbol (Some f) = refl
 
 given-unless : {A : Type 0} (none : Bool) (f : Fault) (a b : A) → a ≡ b → (if none then Err f else Ok a) ≡ unless_fault (if none then Some f else None) b
 given-unless true f a b p = refl
@@ -323,15 +333,15 @@ metadata-ends own o =
 pub same-end : (b : Block) (up own : Entries) (o : OpenBlocks) (t : TokenValue) → ends b (drafts_of (in_block b own o)) t ≡ unless_fault (closing_fault b (above b up o) own t) (drafts_of (after_end b own o))
 same-end block.Map up own o t = unless-same (map_fault (map_tree own).values (map_tree own).symbols (map_tree own).layers) (drafts_of (in_block block.Map own o))
 same-end block.Symbol up own o t =
-    symbol-ends (λ symbol. record (drafts_of (in_block block.Map o.map o)) { map = record (map_tree o.map) { symbols = (map_tree o.map).symbols ++ symbol ∷ []; files = files_used o.map ++ symbol.image ∷ [] } })
-    t (last (text_in text.Name) (values own)) (has_pixmap (values own)) (last (text_in text.Image) (values own))
-    ∙ ap (λ (symbols : List SymbolTree). unless_fault (closing_fault block.Symbol o.map own t) (record (drafts_of (in_block block.Map o.map o)) { map = record (map_tree o.map) { symbols = symbols; files = files_used o.map ++ (symbol_tree own).image ∷ [] } }))
+    symbol-ends (λ symbol. record (drafts_of (in_block block.Map o.map o)) { map = record (map_tree o.map) { symbols = (map_tree o.map).symbols ++ symbol ∷ []; files = with_named_file symbol.image (files_used o.map) } })
+    (symbol_with (values own)) (symbol_fault (values own) t)
+    ∙ ap (λ (symbols : List SymbolTree). unless_fault (closing_fault block.Symbol o.map own t) (record (drafts_of (in_block block.Map o.map o)) { map = record (map_tree o.map) { symbols = symbols; files = with_named_file (symbol_tree own).image (files_used o.map) } }))
     (sym (map-append symbol_tree (blocks block.Symbol o.map) (own ∷ [])))
 same-end block.Layer up own o t =
     layer-ends (map_tree o.map).layers t (drafts_of (in_block block.Layer own o)).layer
-    (λ layer. record (drafts_of (in_block block.Map o.map o)) { map = record (map_tree o.map) { layers = (map_tree o.map).layers ++ layer ∷ []; files = with_table layer.table (files_used o.map) } })
+    (λ layer. record (drafts_of (in_block block.Map o.map o)) { map = record (map_tree o.map) { layers = (map_tree o.map).layers ++ layer ∷ []; files = with_named_file layer.table (files_used o.map) } })
     (last (text_in text.Name) (values own)) (last geometry_in (values own))
-    ∙ ap (λ (layers : List LayerTree). unless_fault (closing_fault block.Layer o.map own t) (record (drafts_of (in_block block.Map o.map o)) { map = record (map_tree o.map) { layers = layers; files = with_table (last (text_in text.Data) (values own)) (files_used o.map) } }))
+    ∙ ap (λ (layers : List LayerTree). unless_fault (closing_fault block.Layer o.map own t) (record (drafts_of (in_block block.Map o.map o)) { map = record (map_tree o.map) { layers = layers; files = with_named_file (last (text_in text.Data) (values own)) (files_used o.map) } }))
     (sym (map-append layer_tree (blocks block.Layer o.map) (own ∷ [])))
 same-end block.Class up own o t = rw (map-append class_tree (blocks block.Class o.layer) (own ∷ [])) refl
 same-end block.Style up own o t = rw (map-append values (blocks block.Style o.class) (own ∷ [])) refl

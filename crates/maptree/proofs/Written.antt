@@ -32,6 +32,7 @@ use Rattle.mapwords.specs.declared.role.Block.TheVariants as block
 use Rattle.mapwords.specs.declared.role.Expected.{Expected}
 use Rattle.mapwords.specs.declared.role.Expected.TheVariants as expected
 use Rattle.mapwords.specs.declared.keyword.Keyword.TheVariants.{End}
+use Rattle.mapwords.specs.declared.symbol.SymbolType.TheVariants.{Pixmap, Ellipse}
 use Rattle.mapwords.specs.declared.table.CountKeyword.{CountKeyword}
 use Rattle.mapwords.specs.declared.table.CountKeyword.TheVariants as counts
 use Rattle.mapwords.specs.declared.table.ColourKeyword.{ColourKeyword}
@@ -42,13 +43,14 @@ use Rattle.mapwords.specs.declared.value.Value.TheVariants as value
 use Rattle.mapdefs.specs.declared.class.Rule.TheVariants.{OneOf}
 use Rattle.mapwords.specs.Count.{number_in, read_count}
 use Rattle.mapwords.specs.Table.{least_of, most_of}
-use Rattle.maptree.specs.Entries.{Entries, Nothing, Said, Vertex, Inside, with_said, vertex_count}
+use Rattle.maptree.specs.Entries.{Entries, Nothing, Said, Vertex, Inside, values, with_said, vertex_count}
 use Rattle.mapdefs.specs.Outcome.{and_then}
 use Rattle.mapwords.specs.Keyword.{spelling, is_spelt}
 use Rattle.mapwords.specs.Given.{value_in}
 use Rattle.maptree.specs.Meaning.{block_in, alone}
 use Rattle.maptree.specs.Says.{Takes, closing_fault, is_full, says}
-use Rattle.maptree.specs.Written.{bare, quoted, block_text, position_text, flag_text, HasNoComma, IsKeyword, IsKey, IsCount, least_count, most_count, map_name, style_colour, style_outline, label_colour, label_outline, service_wms_title, IsWritten, text, table, font, formats, systems, smoothing, metadata, csv_x, csv_y, items, flag, scale, no_colour, some_colour, geometry, pixmap, position, equals, one_of, extent, IsBlockIn, symbol, layer, class, feature, style, points, label, web, web_metadata, layer_metadata, IsWrittenOut, nothing, said, vertex, inside, WrittenIsRead}
+use Rattle.maptree.specs.Smoothing.{is_smooth}
+use Rattle.maptree.specs.Written.{bare, quoted, block_text, position_text, flag_text, HasNoComma, IsKeyword, IsKey, IsCount, least_count, most_count, map_name, style_colour, style_outline, label_colour, label_outline, service_wms_title, IsWritten, symbol_name, symbol_type, smooth_type, symbol_points, symbol_filled, symbol_image, text, table, font, formats, systems, smoothing, metadata, csv_x, csv_y, items, flag, scale, no_colour, some_colour, geometry, pixmap, smooth_symbol, radii, filled, position, equals, one_of, extent, IsBlockIn, symbol, layer, class, feature, style, points, label, web, web_metadata, layer_metadata, IsWrittenOut, nothing, said, vertex, inside, WrittenIsRead}
 use Rattle.maptree.specs.Written as written_as
 use Rattle.maptree.proofs.Blocks.{block-enough}
 use Rattle.mapwords.proofs.Colours.{counts_of}
@@ -101,6 +103,10 @@ count-read keyword n is =
     let written : count_of (decimal n) ≡ Some (pos n) =
     ap (λ r. option_map whole_of (result_ok r)) (numeral-read n NUMBER_LIMIT (omega arith) (omega arith)) ∙ ap (λ z. Some z) (whole-read n) in
     rw (written, le-leb (least_of keyword) n is.least, le-leb n (most_of keyword) is.most) refl
+
+-- 1 is read as 1
+one-read : number_in (decimal 1) ≡ Some (pos 1000000)
+one-read = ap result_ok (numeral-read 1 NUMBER_LIMIT (omega arith) (omega arith))
 
 size-not_end : (n : ℕ) → n < 2 ^ 64 → is_spelt (written (pos n)) End ≡ false
 size-not_end n small =
@@ -175,10 +181,18 @@ csv_y-cut : (given : List ℕ) → setting_in (codes "CSV_Y" ++ (61 ∷ given)) 
 csv_y-cut given = rw (lt-ltb 5 (length (codes "CSV_Y" ++ (61 ∷ given))) (omega arith)) refl
 
 -- a keyword takes what it takes in its block
-keyword-says : (b : Block) (word : List ℕ) (e : Expected) (line : ℕ) (above own : Entries) → IsKeyword b word e → says b above own (bare line word) ≡ Ok (Takes e)
+keyword-says : (b : Block) (word : List ℕ) (e : Expected) (line : ℕ) (above own : Entries) (smooth : Bool) → is_smooth (values above) ≡ smooth → IsKeyword smooth b word e → says b above own (bare line word) ≡ Ok (Takes e)
 unfolding spelling
-keyword-says b word e line above own map_name = refl
-keyword-says b word e line above own _ = refl
+keyword-says b word e line above own smooth same (map_name s) = refl
+keyword-says b word e line above own true same (symbol_name s) = rw same refl
+keyword-says b word e line above own false same (symbol_name s) = rw same refl
+keyword-says b word e line above own smooth same symbol_type = rw same refl
+keyword-says b word e line above own smooth same smooth_type = rw same refl
+keyword-says b word e line above own smooth same symbol_points = rw same refl
+keyword-says b word e line above own smooth same symbol_filled = rw same refl
+keyword-says b word e line above own true same (symbol_image s) = rw same refl
+keyword-says b word e line above own false same (symbol_image s) = rw same refl
+keyword-says b word e line above own smooth same _ = refl
 
 -- and so does a key of METADATA
 key-says : (b : Block) (key : List ℕ) (keyword : TextKeyword) (line : ℕ) (above own : Entries) → IsKey b key keyword → says b above own (quoted line key) ≡ Ok (Takes (expected.Text keyword))
@@ -186,12 +200,12 @@ key-says b key keyword line above own service_wms_title = refl
 key-says b key keyword line above own _ = refl
 
 -- each colour of a keyword that a block has has an effect
-colour-noted : (b : Block) (word : List ℕ) (keyword : ColourKeyword) (colour : Option Rgb) (before : Entries) → IsKeyword b word (expected.Colour keyword) →
+colour-noted : (smooth : Bool) (b : Block) (word : List ℕ) (keyword : ColourKeyword) (colour : Option Rgb) (before : Entries) → IsKeyword smooth b word (expected.Colour keyword) →
     with_said (value.Colour keyword colour) before ≡ Said (value.Colour keyword colour) before
-colour-noted b word keyword colour before style_colour = refl
-colour-noted b word keyword colour before style_outline = refl
-colour-noted b word keyword colour before label_colour = refl
-colour-noted b word keyword colour before label_outline = refl
+colour-noted smooth b word keyword colour before (style_colour s) = refl
+colour-noted smooth b word keyword colour before (style_outline s) = refl
+colour-noted smooth b word keyword colour before (label_colour s) = refl
+colour-noted smooth b word keyword colour before (label_outline s) = refl
 
 module _ (tail : Tail) (k : ℕ) where
   -- what is left is read with one token less in the bound
@@ -199,57 +213,63 @@ module _ (tail : Tail) (k : ℕ) where
   on b above own rest p = block-enough tail k (suc k) b above own rest p (omega arith)
 
   -- after a keyword its value is read
-  keyword-takes : (b : Block) (above before : Entries) (word : List ℕ) (e : Expected) (line : ℕ) (ts : List TokenValue) → IsKeyword b word e →
+  keyword-takes : (b : Block) (above before : Entries) (word : List ℕ) (e : Expected) (line : ℕ) (ts : List TokenValue) (smooth : Bool) → is_smooth (values above) ≡ smooth → IsKeyword smooth b word e →
       block_in tail (suc k) b above before (bare line word ∷ ts) ≡ and_then (value_in tail e ts) (λ v. block_in tail k b above (with_said v.value before) v.rest)
   unfolding block_in
-  keyword-takes b above before word e line ts is = rw (keyword-says b word e line above before is) refl
+  keyword-takes b above before word e line ts smooth same is = rw (keyword-says b word e line above before smooth same is) refl
 
   -- a value is read in its block
-  value-read : (b : Block) (above before : Entries) (v : Value) (ts rest : List TokenValue) → IsWritten b v ts → length (ts ++ rest) ≤ suc k →
+  value-read : (b : Block) (above before : Entries) (v : Value) (ts rest : List TokenValue) (smooth : Bool) → is_smooth (values above) ≡ smooth → IsWritten smooth b v ts → length (ts ++ rest) ≤ suc k →
       block_in tail (suc k) b above before (ts ++ rest) ≡ block_in tail (suc k) b above (Said v before) rest
   unfolding block_in value_in spelling nearest
-  value-read b above before v ts rest (text c word w given line is) p =
-      keyword-takes b above before word _ line _ is ∙ on b above (Said v before) rest (omega arith)
-  value-read b above before v ts rest (table c word given line is named) p =
-      keyword-takes b above before word _ line _ is ∙ rw named (on b above (Said v before) rest (omega arith))
-  value-read b above before v ts rest (font given line) p = on b above (Said v before) rest (omega arith)
-  value-read b above before v ts rest (formats line) p = on b above (Said v before) rest (omega arith)
-  value-read b above before v ts rest (systems line) p = on b above (Said v before) rest (omega arith)
-  value-read b above before v ts rest (smoothing n line given is) p = rw is (on b above (Said v before) rest (omega arith))
-  value-read b above before v ts rest (metadata c key w given line is) p = rw (key-says b key w line above before is) (on b above (Said v before) rest (omega arith))
-  value-read b above before v ts rest (csv_x given line) p = rw (csv_x-cut given) (on b above (Said v before) rest (omega arith))
-  value-read b above before v ts rest (csv_y given line) p = rw (csv_y-cut given) (on b above (Said v before) rest (omega arith))
-  value-read b above before v ts rest (items names line some few none) p =
+  value-read b above before v ts rest smooth same (text s c word w given line is) p =
+      keyword-takes b above before word _ line _ smooth same is ∙ on b above (Said v before) rest (omega arith)
+  value-read b above before v ts rest smooth same (table s c word given line is named) p =
+      keyword-takes b above before word _ line _ smooth same is ∙ rw named (on b above (Said v before) rest (omega arith))
+  value-read b above before v ts rest smooth same (font s given line) p = on b above (Said v before) rest (omega arith)
+  value-read b above before v ts rest smooth same (formats s line) p = on b above (Said v before) rest (omega arith)
+  value-read b above before v ts rest smooth same (systems s line) p = on b above (Said v before) rest (omega arith)
+  value-read b above before v ts rest smooth same (smoothing s n line given is) p = rw is (on b above (Said v before) rest (omega arith))
+  value-read b above before v ts rest smooth same (metadata s c key w given line is) p = rw (key-says b key w line above before is) (on b above (Said v before) rest (omega arith))
+  value-read b above before v ts rest smooth same (csv_x s given line) p = rw (csv_x-cut given) (on b above (Said v before) rest (omega arith))
+  value-read b above before v ts rest smooth same (csv_y s given line) p = rw (csv_y-cut given) (on b above (Said v before) rest (omega arith))
+  value-read b above before v ts rest smooth same (items s names line some few none) p =
       rw (items-cut (join_with_byte 44 names), names-cut names some none, le-ltb MAX_ITEMS (length names) few)
       (on b above (Said v before) rest (omega arith))
-  value-read b above before v ts rest (written_as.count c word w n line is within) p =
+  value-read b above before v ts rest smooth same (written_as.count s c word w n line is within) p =
       let bounded = count-bounded w n within in
       let small : n ≤ 65535 = bounded.small in
-      keyword-takes b above before word _ line _ is
+      keyword-takes b above before word _ line _ smooth same is
       ∙ rw (count-not_end n (omega arith), count-read w n bounded) (on b above (Said v before) rest (omega arith))
-  value-read b above before v ts rest (flag c word w f line is) p =
-      keyword-takes b above before word _ line _ is ∙ rw (flag-not_end f, flag-read f) (on b above (Said v before) rest (omega arith))
-  value-read b above before v ts rest (scale c word w number line is small) p =
-      keyword-takes b above before word _ line _ is ∙ rw (number-not_end number small, number-read number small) (on b above (Said v before) rest (omega arith))
-  value-read b above before v ts rest (no_colour c word w line is) p =
-      keyword-takes b above before word _ line _ is ∙ rw (colour-noted b word w None before is) (on b above (Said v before) rest (omega arith))
-  value-read b above before v ts rest (some_colour c word w rgb line is bytes) p =
-      keyword-takes b above before word _ line _ is
-      ∙ rw (counts_of w rgb.red rgb.green rgb.blue bytes.red bytes.green bytes.blue tail (bare line (decimal rgb.red)) (bare line (decimal rgb.green)) (bare line (decimal rgb.blue)) rest refl refl refl refl refl refl, colour-noted b word w (Some rgb) before is)
+  value-read b above before v ts rest smooth same (flag s c word w f line is) p =
+      keyword-takes b above before word _ line _ smooth same is ∙ rw (flag-not_end f, flag-read f) (on b above (Said v before) rest (omega arith))
+  value-read b above before v ts rest smooth same (scale s c word w number line is small) p =
+      keyword-takes b above before word _ line _ smooth same is ∙ rw (number-not_end number small, number-read number small) (on b above (Said v before) rest (omega arith))
+  value-read b above before v ts rest smooth same (no_colour s c word w line is) p =
+      keyword-takes b above before word _ line _ smooth same is ∙ rw (colour-noted smooth b word w None before is) (on b above (Said v before) rest (omega arith))
+  value-read b above before v ts rest smooth same (some_colour s c word w rgb line is bytes) p =
+      keyword-takes b above before word _ line _ smooth same is
+      ∙ rw (counts_of w rgb.red rgb.green rgb.blue bytes.red bytes.green bytes.blue tail (bare line (decimal rgb.red)) (bare line (decimal rgb.green)) (bare line (decimal rgb.blue)) rest refl refl refl refl refl refl, colour-noted smooth b word w (Some rgb) before is)
       (on b above (Said v before) rest (omega arith))
-  value-read b above before v ts rest (geometry c word Point line is) p = keyword-takes b above before word _ line _ is ∙ on b above (Said v before) rest (omega arith)
-  value-read b above before v ts rest (geometry c word Line line is) p = keyword-takes b above before word _ line _ is ∙ on b above (Said v before) rest (omega arith)
-  value-read b above before v ts rest (geometry c word Polygon line is) p = keyword-takes b above before word _ line _ is ∙ on b above (Said v before) rest (omega arith)
-  value-read b above before v ts rest (pixmap c word line is) p = keyword-takes b above before word _ line _ is ∙ on b above (Said v before) rest (omega arith)
-  value-read b above before v ts rest (position c word at line is) p =
-      keyword-takes b above before word _ line _ is ∙ rw (position-not_end at, position-read at) (on b above (Said v before) rest (omega arith))
-  value-read b above before v ts rest (equals c word given line is) p = keyword-takes b above before word _ line _ is ∙ on b above (Said v before) rest (omega arith)
-  value-read b above before v ts rest (one_of c word texts line is some none) p =
-      keyword-takes b above before word _ line _ is
+  value-read b above before v ts rest smooth same (geometry s c word Point line is) p = keyword-takes b above before word _ line _ smooth same is ∙ on b above (Said v before) rest (omega arith)
+  value-read b above before v ts rest smooth same (geometry s c word Line line is) p = keyword-takes b above before word _ line _ smooth same is ∙ on b above (Said v before) rest (omega arith)
+  value-read b above before v ts rest smooth same (geometry s c word Polygon line is) p = keyword-takes b above before word _ line _ smooth same is ∙ on b above (Said v before) rest (omega arith)
+  value-read b above before v ts rest smooth same (pixmap s c word line is) p = keyword-takes b above before word _ line _ smooth same is ∙ on b above (Said v before) rest (omega arith)
+  value-read b above before v ts rest smooth same (smooth_symbol s c word Pixmap line is) p = keyword-takes b above before word _ line _ smooth same is ∙ on b above (Said v before) rest (omega arith)
+  value-read b above before v ts rest smooth same (smooth_symbol s c word Ellipse line is) p = keyword-takes b above before word _ line _ smooth same is ∙ on b above (Said v before) rest (omega arith)
+  value-read b above before v ts rest smooth same (radii s c word line is) p =
+      keyword-takes b above before word _ line _ smooth same is
+      ∙ rw (count-not_end 1 (omega arith), one-read, count-not_end 1 (omega arith), one-read) (on b above (Said v before) rest (omega arith))
+  value-read b above before v ts rest smooth same (filled s c word line is) p = keyword-takes b above before word _ line _ smooth same is ∙ on b above (Said v before) rest (omega arith)
+  value-read b above before v ts rest smooth same (position s c word at line is) p =
+      keyword-takes b above before word _ line _ smooth same is ∙ rw (position-not_end at, position-read at) (on b above (Said v before) rest (omega arith))
+  value-read b above before v ts rest smooth same (equals s c word given line is) p = keyword-takes b above before word _ line _ smooth same is ∙ on b above (Said v before) rest (omega arith)
+  value-read b above before v ts rest smooth same (one_of s c word texts line is some none) p =
+      keyword-takes b above before word _ line _ smooth same is
       ∙ ap (λ (cut : List (List ℕ)). block_in tail k b above (Said (value.Rule (OneOf cut)) before) rest) (names-cut texts some none)
       ∙ on b above (Said v before) rest (omega arith)
-  value-read b above before v ts rest (extent c word area line is within) p =
-      keyword-takes b above before word _ line _ is
+  value-read b above before v ts rest smooth same (extent s c word area line is within) p =
+      keyword-takes b above before word _ line _ smooth same is
       ∙ rw (
         not_end area.minx within.world.west,
         coordinate-written area.minx within.world.west,
@@ -292,12 +312,19 @@ module _ (tail : Tail) (k : ℕ) where
   block-opens b c above before rest web_metadata room = refl
   block-opens b c above before rest layer_metadata room = refl
 
-  -- and END ends it, where nothing is wrong
+  -- END ends a SYMBOL, where nothing is wrong
+  symbol-ends : (before inner : Entries) (rest : List TokenValue) (smooth : Bool) → is_smooth (values before) ≡ smooth → ((t : TokenValue) → closing_fault block.Symbol before inner t ≡ None) →
+      block_in tail (suc k) block.Symbol before inner (bare 1 (codes "END") ∷ rest) ≡ Ok (inner, rest)
+  unfolding block_in spelling
+  symbol-ends before inner rest true same fine = rw (same, fine (bare 1 (codes "END"))) refl
+  symbol-ends before inner rest false same fine = rw (same, fine (bare 1 (codes "END"))) refl
+
+  -- and any block
   block-ends : (c : Block) (before inner : Entries) (rest : List TokenValue) → ((t : TokenValue) → closing_fault c before inner t ≡ None) →
       block_in tail (suc k) c before inner (bare 1 (codes "END") ∷ rest) ≡ Ok (inner, rest)
   unfolding block_in spelling
   block-ends block.Map before inner rest fine = rw (fine (bare 1 (codes "END"))) refl
-  block-ends block.Symbol before inner rest fine = rw (fine (bare 1 (codes "END"))) refl
+  block-ends block.Symbol before inner rest fine = symbol-ends before inner rest (is_smooth (values before)) refl fine
   block-ends block.Layer before inner rest fine = rw (fine (bare 1 (codes "END"))) refl
   block-ends block.Class before inner rest fine = refl
   block-ends block.Style before inner rest fine = refl
@@ -313,35 +340,38 @@ module _ (tail : Tail) (k : ℕ) where
   block-ends block.Points before inner rest fine = rw (fine (bare 1 (codes "END"))) refl
 
 -- a value has a token
-some-token : (b : Block) (v : Value) (ts : List TokenValue) → IsWritten b v ts → 1 ≤ length ts
-some-token b v ts (text c word w given line is) = omega arith
-some-token b v ts (table c word given line is named) = omega arith
-some-token b v ts (font given line) = omega arith
-some-token b v ts (formats line) = omega arith
-some-token b v ts (systems line) = omega arith
-some-token b v ts (smoothing n line given is) = omega arith
-some-token b v ts (metadata c key w given line is) = omega arith
-some-token b v ts (csv_x given line) = omega arith
-some-token b v ts (csv_y given line) = omega arith
-some-token b v ts (items names line some few none) = omega arith
-some-token b v ts (written_as.count c word w n line is within) = omega arith
-some-token b v ts (flag c word w f line is) = omega arith
-some-token b v ts (scale c word w number line is small) = omega arith
-some-token b v ts (no_colour c word w line is) = omega arith
-some-token b v ts (some_colour c word w rgb line is bytes) = omega arith
-some-token b v ts (geometry c word is_kind line is) = omega arith
-some-token b v ts (pixmap c word line is) = omega arith
-some-token b v ts (position c word at line is) = omega arith
-some-token b v ts (equals c word given line is) = omega arith
-some-token b v ts (one_of c word texts line is some none) = omega arith
-some-token b v ts (extent c word area line is within) = omega arith
+some-token : (smooth : Bool) (b : Block) (v : Value) (ts : List TokenValue) → IsWritten smooth b v ts → 1 ≤ length ts
+some-token smooth b v ts (text s c word w given line is) = omega arith
+some-token smooth b v ts (table s c word given line is named) = omega arith
+some-token smooth b v ts (font s given line) = omega arith
+some-token smooth b v ts (formats s line) = omega arith
+some-token smooth b v ts (systems s line) = omega arith
+some-token smooth b v ts (smoothing s n line given is) = omega arith
+some-token smooth b v ts (metadata s c key w given line is) = omega arith
+some-token smooth b v ts (csv_x s given line) = omega arith
+some-token smooth b v ts (csv_y s given line) = omega arith
+some-token smooth b v ts (items s names line some few none) = omega arith
+some-token smooth b v ts (written_as.count s c word w n line is within) = omega arith
+some-token smooth b v ts (flag s c word w f line is) = omega arith
+some-token smooth b v ts (scale s c word w number line is small) = omega arith
+some-token smooth b v ts (no_colour s c word w line is) = omega arith
+some-token smooth b v ts (some_colour s c word w rgb line is bytes) = omega arith
+some-token smooth b v ts (geometry s c word is_kind line is) = omega arith
+some-token smooth b v ts (pixmap s c word line is) = omega arith
+some-token smooth b v ts (smooth_symbol s c word type line is) = omega arith
+some-token smooth b v ts (radii s c word line is) = omega arith
+some-token smooth b v ts (filled s c word line is) = omega arith
+some-token smooth b v ts (position s c word at line is) = omega arith
+some-token smooth b v ts (equals s c word given line is) = omega arith
+some-token smooth b v ts (one_of s c word texts line is some none) = omega arith
+some-token smooth b v ts (extent s c word area line is within) = omega arith
 
 -- a value in its block
-value-here : (tail : Tail) (n : ℕ) (b : Block) (above before : Entries) (v : Value) (ts rest : List TokenValue) → IsWritten b v ts → length (ts ++ rest) ≤ n →
+value-here : (tail : Tail) (n : ℕ) (b : Block) (above before : Entries) (v : Value) (ts rest : List TokenValue) → IsWritten (is_smooth (values above)) b v ts → length (ts ++ rest) ≤ n →
     block_in tail n b above before (ts ++ rest) ≡ block_in tail n b above (Said v before) rest
-value-here tail (suc k) b above before v ts rest is p = value-read tail k b above before v ts rest is p
+value-here tail (suc k) b above before v ts rest is p = value-read tail k b above before v ts rest _ refl is p
 value-here tail zero b above before v ts rest is p =
-    let some : 1 ≤ length ts = some-token b v ts is in
+    let some : 1 ≤ length ts = some-token _ b v ts is in
     absurd (omega (arith, length-append ts rest))
 
 vertex-here : (tail : Tail) (n : ℕ) (above before : Entries) (place : Place) (rest : List TokenValue) → IsCoordinate place.x → IsCoordinate place.y → vertex_count above before < MAX_VERTICES → length rest + 2 ≤ n →

@@ -12,7 +12,7 @@ table_fault Point table = None
 table_fault geometry None = None
 table_fault geometry (Some table) = Some (record { line = table.line; kind = WrongValue })
 
--- the files that are used, with the file of a layer's table after them, if it has one
-abbrev pub with_table : Option Named → List Named → List Named
-with_table None files = files
-with_table (Some table) files = files ++ table ∷ []
+-- the files that are used, with that of a symbol or of a layer after them, if it has one
+abbrev pub with_named_file : Option Named → List Named → List Named
+with_named_file None files = files
+with_named_file (Some file) files = files ++ file ∷ []

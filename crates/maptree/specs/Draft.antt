@@ -14,7 +14,7 @@ use Rattle.maptree.specs.declared.draft.Drafts.{Drafts}
 use Rattle.maptree.specs.Entries.{has_effect}
 use Rattle.maptree.specs.Parts.{no_parts}
 use Rattle.maptree.specs.Tree.{is_font}
-use Rattle.maptree.specs.Values.{words_in}
+use Rattle.mapvalues.specs.Values.{words_in}
 
 -- a MAP of which nothing was read
 abbrev pub new_map : MapTree

@@ -1,5 +1,5 @@
 -- What an END does, and what is checked at it (docs/MAPFILE.md, "Blocks and words").
-use Rattle.std.specs.Prelude.{◌==◌, if◌then◌else◌, List, [], ◌∷◌, ◌++◌, length, Bool, true, Option, None, Some, Result, Ok, Err}
+use Rattle.std.specs.Prelude.{◌==◌, if◌then◌else◌, List, [], ◌∷◌, ◌++◌, length, Option, None, Some, Result, Ok, Err}
 use Rattle.maplex.specs.Token.{TokenValue}
 use Rattle.mapdefs.specs.declared.layer.Geometry.{Geometry}
 use Rattle.maptree.specs.Name.{is_taken}
@@ -16,11 +16,12 @@ use Rattle.maptree.specs.declared.tree.SymbolTree.{SymbolTree}
 use Rattle.maptree.specs.declared.draft.Drafts.{Drafts}
 use Rattle.mapwords.specs.Fault.{refused}
 use Rattle.mapdefs.specs.Outcome.{and_then}
-use Rattle.maptree.specs.Data.{table_fault, with_table}
+use Rattle.maptree.specs.Data.{table_fault, with_named_file}
 use Rattle.maptree.specs.Parts.{with_part}
 use Rattle.maptree.specs.Outline.{map_fault}
 use Rattle.maptree.specs.Draft.{new_layer, new_class, new_feature}
-use Rattle.maptree.specs.Values.{geometry_in, has_pixmap, last, text_in}
+use Rattle.maptree.specs.Symbol.{symbol_fault, symbol_with}
+use Rattle.mapvalues.specs.Values.{geometry_in, last, text_in}
 
 -- a layer with this name and this geometry, and with what it says
 abbrev pub layer_with : Named → Geometry → LayerBody → LayerTree
@@ -45,7 +46,7 @@ finished_layer _ _ body earlier t = refused MissingValue t
 -- at the END of a LAYER the map has it, and uses the file of its table
 abbrev pub layer_end : Drafts → TokenValue → Result Drafts Fault
 layer_end d t = and_then (finished_layer (last (text_in text.Name) d.layer.values) (last geometry_in d.layer.values) d.layer d.map.layers t) (λ layer.
-    Ok (record d { map = record d.map { layers = d.map.layers ++ layer ∷ []; files = with_table layer.table d.map.files }; layer = new_layer }))
+    Ok (record d { map = record d.map { layers = d.map.layers ++ layer ∷ []; files = with_named_file layer.table d.map.files }; layer = new_layer }))
 
 -- at the END of a CLASS the layer has it
 abbrev pub class_end : Drafts → Drafts
@@ -74,19 +75,14 @@ points_end d t =
     if length d.feature.parts.next == 0 then refused MissingValue t
     else Ok (record d { feature = record d.feature { parts = with_part d.feature.parts } })
 
--- a symbol has a name, a kind and an image
-abbrev pub symbol_with : Option Named → Bool → Option Named → TokenValue → Result SymbolTree Fault
-symbol_with (Some name) true (Some image) t = Ok (record { name = name; image = image })
-symbol_with _ _ _ t = refused MissingValue t
-
--- the symbol with these values
+-- the symbol with these values, if they are those of one
 abbrev pub finished_symbol : List Value → TokenValue → Result SymbolTree Fault
-finished_symbol vs t = symbol_with (last (text_in text.Name) vs) (has_pixmap vs) (last (text_in text.Image) vs) t
+finished_symbol vs t = unless_fault (symbol_fault vs t) (symbol_with vs)
 
--- at the END of a SYMBOL the map has it, and uses the file of its image
+-- at the END of a SYMBOL the map has it, and uses the file of its image, if it has one
 abbrev pub symbol_end : Drafts → TokenValue → Result Drafts Fault
 symbol_end d t = and_then (finished_symbol d.symbol t) (λ symbol.
-    Ok (record d { map = record d.map { symbols = d.map.symbols ++ symbol ∷ []; files = d.map.files ++ symbol.image ∷ [] }; symbol = [] }))
+    Ok (record d { map = record d.map { symbols = d.map.symbols ++ symbol ∷ []; files = with_named_file symbol.image d.map.files }; symbol = [] }))
 
 -- at the END of MAP its styles name symbols that it has, and where it is smoothed its labels have widths of outlines
 abbrev pub map_end : Drafts → Result Drafts Fault

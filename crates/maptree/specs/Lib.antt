@@ -9,9 +9,9 @@ pub mod Outline
 pub mod Parts
 pub mod Pass
 pub mod Says
+pub mod Smoothing
 pub mod Source
 pub mod Step
 pub mod Symbol
 pub mod Tree
-pub mod Values
 pub mod Written

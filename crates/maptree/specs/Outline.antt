@@ -1,5 +1,5 @@
 -- The widths of labels' outlines, which a smoothed map judges (docs/MAPFILE.md, "Labels" and "Smoothing").
-use Rattle.std.specs.Prelude.{ℕ, nat_lt, if◌then◌else◌, List, Option, None, Some, is_some, option_and_then, unwrap_or}
+use Rattle.std.specs.Prelude.{ℕ, if◌then◌else◌, List, Option, None, Some, is_some, option_and_then}
 use Rattle.std.specs.Option.{option_or}
 use Rattle.mapwords.specs.Count.{counted}
 use Rattle.mapwords.specs.declared.fault.Fault.{Fault}
@@ -12,7 +12,8 @@ use Rattle.maptree.specs.declared.tree.ClassTree.{ClassTree}
 use Rattle.maptree.specs.declared.tree.LayerTree.{LayerTree}
 use Rattle.maptree.specs.declared.tree.SymbolTree.{SymbolTree}
 use Rattle.maptree.specs.Symbol.{first_fault, symbols_fault}
-use Rattle.maptree.specs.Values.{count_in, last, text_in}
+use Rattle.maptree.specs.Smoothing.{is_smooth, discs_fault}
+use Rattle.mapvalues.specs.Values.{last, text_in}
 
 -- the width that a text means, if it is one
 abbrev pub width_in : Named → Option ℕ
@@ -38,14 +39,11 @@ class_width_fault class = option_and_then label_width_fault class.label
 abbrev pub layer_width_fault : LayerTree → Option Fault
 layer_width_fault layer = first_fault class_width_fault layer.body.classes
 
--- how many times as fine the pictures are that a map's values ask for
-abbrev pub smoothing_in : List Value → ℕ
-smoothing_in given = unwrap_or (last (count_in count.Smoothing) given) 1
-
 -- of the first of a map's layers, in the order of the mapfile, where the map is smoothed
 abbrev pub widths_fault : List Value → List LayerTree → Option Fault
-widths_fault given layers = if nat_lt 1 (smoothing_in given) then first_fault layer_width_fault layers else None
+widths_fault given layers = if is_smooth given then first_fault layer_width_fault layers else None
 
--- what is wrong at the END of a MAP: a style names no symbol, or else a label has no width that a smoothed map may have
+-- what is wrong at the END of a MAP: a style names no symbol, or else a disc is in a map that isn't smoothed, or a label has no
+-- width that a smoothed map may have
 abbrev pub map_fault : List Value → List SymbolTree → List LayerTree → Option Fault
-map_fault given symbols layers = option_or (symbols_fault symbols layers) (widths_fault given layers)
+map_fault given symbols layers = option_or (symbols_fault symbols layers) (option_or (discs_fault given symbols) (widths_fault given layers))

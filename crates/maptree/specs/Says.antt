@@ -21,12 +21,13 @@ use Rattle.mapdefs.specs.Outcome.{and_then}
 use Rattle.maptree.specs.Name.{is_taken}
 use Rattle.mapwords.specs.Setting.{pair_expects}
 use Rattle.mapwords.specs.Keyword.{keyword_at, is_end}
-use Rattle.mapwords.specs.Table.{role_of}
+use Rattle.mapwords.specs.Table.{role_in}
 use Rattle.maptree.specs.Outline.{map_fault}
+use Rattle.maptree.specs.Smoothing.{is_smooth}
 use Rattle.maptree.specs.Symbol.{symbol_fault}
 use Rattle.mapwords.specs.Value.{is_value, coordinate_in}
 use Rattle.maptree.specs.Tree.{map_tree}
-use Rattle.maptree.specs.Values.{geometry_in, has_pixmap, last, text_in}
+use Rattle.mapvalues.specs.Values.{geometry_in, last, text_in}
 
 -- what a token says: the block ends, an inner block opens, a keyword takes values, a vertex has this longitude, or nothing
 pub data Saying : Type 0 where
@@ -45,8 +46,7 @@ layer_end_fault _ _ table earlier t = Some (fault_of MissingValue t)
 -- what is wrong at the END of a block, by what its parent says before it and what it says itself
 abbrev pub closing_fault : Block → Entries → Entries → TokenValue → Option Fault
 closing_fault block.Map above own t = map_fault (map_tree own).values (map_tree own).symbols (map_tree own).layers
-closing_fault block.Symbol above own t =
-    symbol_fault (last (text_in text.Name) (values own)) (has_pixmap (values own)) (last (text_in text.Image) (values own)) t
+closing_fault block.Symbol above own t = symbol_fault (values own) t
 closing_fault block.Layer above own t =
     layer_end_fault (last (text_in text.Name) (values own)) (last geometry_in (values own)) (last (text_in text.Data) (values own)) (map_tree above).layers t
 closing_fault block.Feature above own t = if length (blocks block.Points own) == 0 then Some (fault_of MissingValue t) else None
@@ -95,9 +95,9 @@ skipped_says (Some role.Closes) = Ok Ends
 skipped_says (Some (role.Opens inner)) = Ok (Opens inner)
 skipped_says _ = Ok Skips
 
--- what a token does in a block, if it is a keyword of the block
-abbrev pub role_at : Block → TokenValue → Option Role
-role_at b t = option_and_then (role_of b) (keyword_at t)
+-- what a token does in a block of this parent, if it is a keyword of the block: what a MAP says before a SYMBOL may let that be a disc
+abbrev pub role_at : Block → Entries → TokenValue → Option Role
+role_at b above t = option_and_then (role_in b (is_smooth (values above))) (keyword_at t)
 
 -- what a token says in a block, of which the parent says this before it, and the block this so far
 abbrev pub says : Block → Entries → Entries → TokenValue → Result Saying Fault
@@ -105,7 +105,7 @@ says block.Points above own t = points_say above own t
 says block.Validation above own t = pair_says block.Validation t
 says block.WebMetadata above own t = pair_says block.WebMetadata t
 says block.LayerMetadata above own t = pair_says block.LayerMetadata t
-says block.Projection above own t = skipped_says (role_at block.Projection t)
-says block.Skipped above own t = skipped_says (role_at block.Skipped t)
-says block.SkippedLabel above own t = skipped_says (role_at block.SkippedLabel t)
-says b above own t = role_says b (role_at b t) above own t
+says block.Projection above own t = skipped_says (role_at block.Projection above t)
+says block.Skipped above own t = skipped_says (role_at block.Skipped above t)
+says block.SkippedLabel above own t = skipped_says (role_at block.SkippedLabel above t)
+says b above own t = role_says b (role_at b above t) above own t

@@ -21,8 +21,10 @@ use Rattle.mapwords.specs.Fault.{fault_of, refused}
 use Rattle.mapdefs.specs.Outcome.{and_then}
 use Rattle.mapwords.specs.Keyword.{keyword_at, is_end}
 use Rattle.mapwords.specs.Setting.{pair_expects}
-use Rattle.mapwords.specs.Table.{role_of}
+use Rattle.mapwords.specs.Symbol.{is_early_end}
+use Rattle.mapwords.specs.Table.{role_in, role_of}
 use Rattle.mapwords.specs.Value.{is_value, value_step, coordinate_in}
+use Rattle.maptree.specs.Smoothing.{is_smooth}
 use Rattle.maptree.specs.Parts.{vertex_count, with_vertex}
 use Rattle.maptree.specs.Draft.{with_value, is_full}
 use Rattle.maptree.specs.End.{ends}
@@ -40,7 +42,7 @@ read_role b (Some (Takes expected)) d t = Ok (Enters (Values b expected), d)
 
 -- a token is read as a keyword of a block
 abbrev pub read_keyword : Block → Drafts → TokenValue → Result (Move × Drafts) Fault
-read_keyword b d t = read_role b (option_and_then (role_of b) (keyword_at t)) d t
+read_keyword b d t = read_role b (option_and_then (role_in b (is_smooth d.map.values)) (keyword_at t)) d t
 
 -- a whole value is noted, and of another one more is expected
 abbrev pub note_step : Block → Result ValueStep Fault → Drafts → Result (Move × Drafts) Fault
@@ -50,7 +52,7 @@ note_step b (Ok (Whole value)) d = Ok (Leaves, with_value b value d)
 
 -- a token is read as a value of a block
 abbrev pub read_value : Block → Expected → Drafts → TokenValue → Result (Move × Drafts) Fault
-read_value b expected d t = if is_end t then refused MissingValue t else note_step b (value_step expected t) d
+read_value b expected d t = if is_early_end expected t then refused MissingValue t else note_step b (value_step expected t) d
 
 -- the coordinate that a token is, of a vertex that the feature must have room for
 abbrev pub coordinate_at : Drafts → TokenValue → Result ℤ Fault

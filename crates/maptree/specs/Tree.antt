@@ -14,9 +14,10 @@ use Rattle.maptree.specs.declared.tree.LayerBody.{LayerBody}
 use Rattle.maptree.specs.declared.tree.LayerTree.{LayerTree}
 use Rattle.maptree.specs.declared.tree.SymbolTree.{SymbolTree}
 use Rattle.maptree.specs.declared.tree.MapTree.{MapTree}
-use Rattle.maptree.specs.Data.{with_table}
+use Rattle.maptree.specs.Data.{with_named_file}
 use Rattle.maptree.specs.Entries.{Entries, Nothing, Said, Vertex, Inside, values, blocks, last_block, vertices}
-use Rattle.maptree.specs.Values.{geometry_in, last, text_in, words_in}
+use Rattle.maptree.specs.Symbol.{no_name, symbol_with}
+use Rattle.mapvalues.specs.Values.{geometry_in, last, text_in, words_in}
 
 -- a CLASS has its values, those of its STYLE blocks and those of its LABEL
 abbrev pub class_tree : Entries → ClassTree
@@ -42,10 +43,6 @@ layer_body own = record {
   features = map feature_tree (blocks block.Feature own);
 }
 
--- an empty text where one is missing
-abbrev pub no_name : Named
-no_name = record { text = []; line = 0 }
-
 -- a LAYER has its last NAME and its last TYPE, without which its END is refused, its last DATA, and what it says
 abbrev pub layer_tree : Entries → LayerTree
 layer_tree own = record {
@@ -55,17 +52,15 @@ layer_tree own = record {
   body = layer_body own;
 }
 
--- a SYMBOL has its last NAME and its last IMAGE, without which its END is refused
+-- a SYMBOL has what its values say
 abbrev pub symbol_tree : Entries → SymbolTree
-symbol_tree own = record {
-  name = unwrap_or (last (text_in text.Name) (values own)) no_name;
-  image = unwrap_or (last (text_in text.Image) (values own)) no_name;
-}
+symbol_tree own = symbol_with (values own)
 
--- the files that are used, with that of a block of MAP after them: a SYMBOL uses that of its IMAGE, a LAYER that of its DATA
+-- the files that are used, with that of a block of MAP after them: a SYMBOL uses that of its IMAGE, if it has one, a LAYER that of
+-- its DATA
 abbrev pub with_file_of : Block → Entries → List Named → List Named
-with_file_of block.Symbol own files = files ++ (symbol_tree own).image ∷ []
-with_file_of block.Layer own files = with_table (last (text_in text.Data) (values own)) files
+with_file_of block.Symbol own files = with_named_file (symbol_tree own).image files
+with_file_of block.Layer own files = with_named_file (last (text_in text.Data) (values own)) files
 with_file_of _ own files = files
 
 -- the files that the blocks of a MAP use, in their order

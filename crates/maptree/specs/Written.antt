@@ -19,6 +19,8 @@ use Rattle.mapwords.specs.declared.role.Block.{Block}
 use Rattle.mapwords.specs.declared.role.Block.TheVariants as block
 use Rattle.mapwords.specs.declared.role.Expected.{Expected}
 use Rattle.mapwords.specs.declared.role.Expected.TheVariants as expected
+use Rattle.mapwords.specs.declared.symbol.SymbolType.{SymbolType}
+use Rattle.mapwords.specs.declared.symbol.SymbolType.TheVariants.{Pixmap, Ellipse}
 use Rattle.mapwords.specs.declared.table.CountKeyword.{CountKeyword}
 use Rattle.mapwords.specs.declared.table.CountKeyword.TheVariants as counts
 use Rattle.mapwords.specs.declared.table.ColourKeyword.{ColourKeyword}
@@ -31,12 +33,13 @@ use Rattle.mapwords.specs.declared.table.TextKeyword.{TextKeyword}
 use Rattle.mapwords.specs.declared.table.TextKeyword.TheVariants as texts
 use Rattle.mapwords.specs.declared.value.Value.{Value}
 use Rattle.mapwords.specs.declared.value.Value.TheVariants as value
-use Rattle.mapwords.specs.Count.{smoothing_of}
 use Rattle.mapwords.specs.Rule.{is_comma}
+use Rattle.mapwords.specs.Smoothing.{factor_of}
 use Rattle.mapwords.specs.Value.{is_table_name, named}
-use Rattle.maptree.specs.Entries.{Entries, Nothing, Said, Vertex, Inside, vertex_count}
+use Rattle.maptree.specs.Entries.{Entries, Nothing, Said, Vertex, Inside, values, vertex_count}
 use Rattle.maptree.specs.Meaning.{meaning}
 use Rattle.maptree.specs.Says.{closing_fault, is_full}
+use Rattle.maptree.specs.Smoothing.{is_smooth}
 
 -- a bare word on a line
 abbrev pub bare : ℕ → List ℕ → TokenValue
@@ -79,6 +82,11 @@ geometry_text Point = codes "POINT"
 geometry_text Line = codes "LINE"
 geometry_text Polygon = codes "POLYGON"
 
+-- how the type of a symbol is written
+abbrev pub type_text : SymbolType → List ℕ
+type_text Pixmap = codes "PIXMAP"
+type_text Ellipse = codes "ELLIPSE"
+
 -- a setting of a PROCESSING on a line
 abbrev pub setting : List ℕ → List ℕ → ℕ → List TokenValue
 setting key text line = bare line (codes "PROCESSING") ∷ quoted line (key ++ (61 ∷ text)) ∷ []
@@ -111,41 +119,44 @@ pub record IsColour (colour : Rgb) : Type 0 where
 abbrev pub HasNoComma : List ℕ → Type 0
 HasNoComma name = All (λ byte. is_comma byte ≡ false) name
 
--- the keywords of each block as they are written, and what each takes
-pub data IsKeyword : Block → List ℕ → Expected → Type 0 where
-  map_name : IsKeyword block.Map (codes "NAME") (expected.Text texts.Name)
-  map_extent : IsKeyword block.Map (codes "EXTENT") expected.West
-  symbol_name : IsKeyword block.Symbol (codes "NAME") (expected.Text texts.Name)
-  symbol_type : IsKeyword block.Symbol (codes "TYPE") expected.Pixmap
-  symbol_image : IsKeyword block.Symbol (codes "IMAGE") (expected.Text texts.Image)
-  layer_name : IsKeyword block.Layer (codes "NAME") (expected.Text texts.Name)
-  layer_type : IsKeyword block.Layer (codes "TYPE") expected.Geometry
-  layer_data : IsKeyword block.Layer (codes "DATA") expected.Table
-  class_item : IsKeyword block.Layer (codes "CLASSITEM") (expected.Text texts.ClassItem)
-  label_item : IsKeyword block.Layer (codes "LABELITEM") (expected.Text texts.LabelItem)
-  template : IsKeyword block.Layer (codes "TEMPLATE") (expected.Text texts.Template)
-  layer_tolerance : IsKeyword block.Layer (codes "TOLERANCE") (expected.Count counts.Tolerance)
-  layer_min : IsKeyword block.Layer (codes "MINSCALEDENOM") (expected.Scale scales.Min)
-  layer_max : IsKeyword block.Layer (codes "MAXSCALEDENOM") (expected.Scale scales.Max)
-  class_rule : IsKeyword block.Class (codes "EXPRESSION") expected.Rule
-  class_min : IsKeyword block.Class (codes "MINSCALEDENOM") (expected.Scale scales.Min)
-  class_max : IsKeyword block.Class (codes "MAXSCALEDENOM") (expected.Scale scales.Max)
-  style_colour : IsKeyword block.Style (codes "COLOR") (expected.Colour colours.Color)
-  style_outline : IsKeyword block.Style (codes "OUTLINECOLOR") (expected.Colour colours.OutlineColor)
-  style_width : IsKeyword block.Style (codes "WIDTH") (expected.Count counts.Width)
-  style_size : IsKeyword block.Style (codes "SIZE") (expected.Count counts.Size)
-  style_symbol : IsKeyword block.Style (codes "SYMBOL") (expected.Text texts.Symbol)
-  label_colour : IsKeyword block.Label (codes "COLOR") (expected.Colour colours.Color)
-  label_outline : IsKeyword block.Label (codes "OUTLINECOLOR") (expected.Colour colours.OutlineColor)
-  label_priority : IsKeyword block.Label (codes "PRIORITY") (expected.Count counts.Priority)
-  label_position : IsKeyword block.Label (codes "POSITION") expected.Position
-  label_buffer : IsKeyword block.Label (codes "BUFFER") (expected.Count counts.Buffer)
-  label_distance : IsKeyword block.Label (codes "MINDISTANCE") (expected.Count counts.MinDistance)
-  label_partials : IsKeyword block.Label (codes "PARTIALS") (expected.Flag flags.Partials)
-  label_outline_width : IsKeyword block.Label (codes "OUTLINEWIDTH") (expected.Text texts.OutlineWidth)
-  label_force : IsKeyword block.Label (codes "FORCE") (expected.Flag flags.Force)
-  feature_text : IsKeyword block.Feature (codes "TEXT") (expected.Text texts.Text)
-  feature_items : IsKeyword block.Feature (codes "ITEMS") (expected.Text texts.Items)
+-- the keywords of each block as they are written, and what each takes in a map that is smoothed so far, or isn't
+pub data IsKeyword : Bool → Block → List ℕ → Expected → Type 0 where
+  map_name : (smooth : Bool) → IsKeyword smooth block.Map (codes "NAME") (expected.Text texts.Name)
+  map_extent : (smooth : Bool) → IsKeyword smooth block.Map (codes "EXTENT") expected.West
+  symbol_name : (smooth : Bool) → IsKeyword smooth block.Symbol (codes "NAME") (expected.Text texts.Name)
+  symbol_type : IsKeyword false block.Symbol (codes "TYPE") expected.Pixmap
+  smooth_type : IsKeyword true block.Symbol (codes "TYPE") expected.SymbolType
+  symbol_points : IsKeyword true block.Symbol (codes "POINTS") (expected.Radii 2)
+  symbol_filled : IsKeyword true block.Symbol (codes "FILLED") expected.Filled
+  symbol_image : (smooth : Bool) → IsKeyword smooth block.Symbol (codes "IMAGE") (expected.Text texts.Image)
+  layer_name : (smooth : Bool) → IsKeyword smooth block.Layer (codes "NAME") (expected.Text texts.Name)
+  layer_type : (smooth : Bool) → IsKeyword smooth block.Layer (codes "TYPE") expected.Geometry
+  layer_data : (smooth : Bool) → IsKeyword smooth block.Layer (codes "DATA") expected.Table
+  class_item : (smooth : Bool) → IsKeyword smooth block.Layer (codes "CLASSITEM") (expected.Text texts.ClassItem)
+  label_item : (smooth : Bool) → IsKeyword smooth block.Layer (codes "LABELITEM") (expected.Text texts.LabelItem)
+  template : (smooth : Bool) → IsKeyword smooth block.Layer (codes "TEMPLATE") (expected.Text texts.Template)
+  layer_tolerance : (smooth : Bool) → IsKeyword smooth block.Layer (codes "TOLERANCE") (expected.Count counts.Tolerance)
+  layer_min : (smooth : Bool) → IsKeyword smooth block.Layer (codes "MINSCALEDENOM") (expected.Scale scales.Min)
+  layer_max : (smooth : Bool) → IsKeyword smooth block.Layer (codes "MAXSCALEDENOM") (expected.Scale scales.Max)
+  class_rule : (smooth : Bool) → IsKeyword smooth block.Class (codes "EXPRESSION") expected.Rule
+  class_min : (smooth : Bool) → IsKeyword smooth block.Class (codes "MINSCALEDENOM") (expected.Scale scales.Min)
+  class_max : (smooth : Bool) → IsKeyword smooth block.Class (codes "MAXSCALEDENOM") (expected.Scale scales.Max)
+  style_colour : (smooth : Bool) → IsKeyword smooth block.Style (codes "COLOR") (expected.Colour colours.Color)
+  style_outline : (smooth : Bool) → IsKeyword smooth block.Style (codes "OUTLINECOLOR") (expected.Colour colours.OutlineColor)
+  style_width : (smooth : Bool) → IsKeyword smooth block.Style (codes "WIDTH") (expected.Count counts.Width)
+  style_size : (smooth : Bool) → IsKeyword smooth block.Style (codes "SIZE") (expected.Count counts.Size)
+  style_symbol : (smooth : Bool) → IsKeyword smooth block.Style (codes "SYMBOL") (expected.Text texts.Symbol)
+  label_colour : (smooth : Bool) → IsKeyword smooth block.Label (codes "COLOR") (expected.Colour colours.Color)
+  label_outline : (smooth : Bool) → IsKeyword smooth block.Label (codes "OUTLINECOLOR") (expected.Colour colours.OutlineColor)
+  label_priority : (smooth : Bool) → IsKeyword smooth block.Label (codes "PRIORITY") (expected.Count counts.Priority)
+  label_position : (smooth : Bool) → IsKeyword smooth block.Label (codes "POSITION") expected.Position
+  label_buffer : (smooth : Bool) → IsKeyword smooth block.Label (codes "BUFFER") (expected.Count counts.Buffer)
+  label_distance : (smooth : Bool) → IsKeyword smooth block.Label (codes "MINDISTANCE") (expected.Count counts.MinDistance)
+  label_partials : (smooth : Bool) → IsKeyword smooth block.Label (codes "PARTIALS") (expected.Flag flags.Partials)
+  label_outline_width : (smooth : Bool) → IsKeyword smooth block.Label (codes "OUTLINEWIDTH") (expected.Text texts.OutlineWidth)
+  label_force : (smooth : Bool) → IsKeyword smooth block.Label (codes "FORCE") (expected.Flag flags.Force)
+  feature_text : (smooth : Bool) → IsKeyword smooth block.Feature (codes "TEXT") (expected.Text texts.Text)
+  feature_items : (smooth : Bool) → IsKeyword smooth block.Feature (codes "ITEMS") (expected.Text texts.Items)
 
 -- the keys of METADATA as they are written, and what each gives
 pub data IsKey : Block → List ℕ → TextKeyword → Type 0 where
@@ -164,7 +175,6 @@ least_count counts.Tolerance = 0
 least_count counts.Priority = 1
 least_count counts.Buffer = 0
 least_count counts.MinDistance = 0
-least_count counts.Smoothing = 1
 least_count counts.OutlineWidth = 1
 
 -- and the greatest
@@ -175,7 +185,6 @@ most_count counts.Tolerance = MAX_TOLERANCE
 most_count counts.Priority = MAX_PRIORITY
 most_count counts.Buffer = MAX_BUFFER
 most_count counts.MinDistance = MAX_DISTANCE
-most_count counts.Smoothing = 4
 most_count counts.OutlineWidth = MAX_OUTLINE_WIDTH
 
 -- a count that a keyword takes
@@ -183,50 +192,56 @@ pub record IsCount (keyword : CountKeyword) (n : ℕ) : Type 0 where
   pub least : least_count keyword ≤ n
   pub most : n ≤ most_count keyword
 
--- the tokens that give a block a value; the expressions of classes have a grammar and a law of their own
-pub data IsWritten : Block → Value → List TokenValue → Type 0 where
-  text : (b : Block) (word : List ℕ) (keyword : TextKeyword) (given : List ℕ) (line : ℕ) → IsKeyword b word (expected.Text keyword) →
-      IsWritten b (value.Text keyword (named given line)) (bare line word ∷ quoted line given ∷ [])
-  table : (b : Block) (word given : List ℕ) (line : ℕ) → IsKeyword b word expected.Table → is_table_name given ≡ true →
-      IsWritten b (value.Text texts.Data (named given line)) (bare line word ∷ quoted line given ∷ [])
-  font : (given : List ℕ) (line : ℕ) →
-      IsWritten block.Map (value.Text texts.LabelFont (named given line)) (bare line (codes "CONFIG") ∷ quoted line (codes "LABELFONT") ∷ quoted line given ∷ [])
-  formats : (line : ℕ) →
-      IsWritten block.Map (value.Flag flags.Png true) (bare line (codes "CONFIG") ∷ quoted line (codes "WMS_FORMATS") ∷ quoted line (codes "image/png") ∷ [])
-  systems : (line : ℕ) →
-      IsWritten block.Map (value.Flag flags.Mercator true) (bare line (codes "CONFIG") ∷ quoted line (codes "WMS_CRS") ∷ quoted line (codes "EPSG:3857") ∷ [])
-  smoothing : (n line : ℕ) (given : List ℕ) → smoothing_of given ≡ Some n →
-      IsWritten block.Map (value.Count (record { keyword = counts.Smoothing; number = n }))
+-- the tokens that give a block of a map that is smoothed so far, or isn't, a value; the expressions of classes have a grammar and a law of their own
+pub data IsWritten : Bool → Block → Value → List TokenValue → Type 0 where
+  text : (smooth : Bool) (b : Block) (word : List ℕ) (keyword : TextKeyword) (given : List ℕ) (line : ℕ) → IsKeyword smooth b word (expected.Text keyword) →
+      IsWritten smooth b (value.Text keyword (named given line)) (bare line word ∷ quoted line given ∷ [])
+  table : (smooth : Bool) (b : Block) (word given : List ℕ) (line : ℕ) → IsKeyword smooth b word expected.Table → is_table_name given ≡ true →
+      IsWritten smooth b (value.Text texts.Data (named given line)) (bare line word ∷ quoted line given ∷ [])
+  font : (smooth : Bool) (given : List ℕ) (line : ℕ) →
+      IsWritten smooth block.Map (value.Text texts.LabelFont (named given line)) (bare line (codes "CONFIG") ∷ quoted line (codes "LABELFONT") ∷ quoted line given ∷ [])
+  formats : (smooth : Bool) (line : ℕ) →
+      IsWritten smooth block.Map (value.Flag flags.Png true) (bare line (codes "CONFIG") ∷ quoted line (codes "WMS_FORMATS") ∷ quoted line (codes "image/png") ∷ [])
+  systems : (smooth : Bool) (line : ℕ) →
+      IsWritten smooth block.Map (value.Flag flags.Mercator true) (bare line (codes "CONFIG") ∷ quoted line (codes "WMS_CRS") ∷ quoted line (codes "EPSG:3857") ∷ [])
+  smoothing : (smooth : Bool) (n line : ℕ) (given : List ℕ) → factor_of given ≡ Some n →
+      IsWritten smooth block.Map (value.Smoothing (record { factor = n; line = line }))
       (bare line (codes "CONFIG") ∷ quoted line (codes "WMS_SMOOTHING") ∷ quoted line given ∷ [])
-  metadata : (b : Block) (key : List ℕ) (keyword : TextKeyword) (given : List ℕ) (line : ℕ) → IsKey b key keyword →
-      IsWritten b (value.Text keyword (named given line)) (quoted line key ∷ quoted line given ∷ [])
-  csv_x : (given : List ℕ) (line : ℕ) → IsWritten block.Layer (value.Text texts.CsvX (named given line)) (setting (codes "CSV_X") given line)
-  csv_y : (given : List ℕ) (line : ℕ) → IsWritten block.Layer (value.Text texts.CsvY (named given line)) (setting (codes "CSV_Y") given line)
-  items : (names : List (List ℕ)) (line : ℕ) → 1 ≤ length names → length names ≤ MAX_ITEMS → All HasNoComma names →
-      IsWritten block.Layer (value.Items names) (setting (codes "ITEMS") (join_with_byte 44 names) line)
-  count : (b : Block) (word : List ℕ) (keyword : CountKeyword) (n line : ℕ) → IsKeyword b word (expected.Count keyword) → IsCount keyword n →
-      IsWritten b (value.Count (record { keyword = keyword; number = n })) (bare line word ∷ bare line (decimal n) ∷ [])
-  flag : (b : Block) (word : List ℕ) (keyword : FlagKeyword) (is : Bool) (line : ℕ) → IsKeyword b word (expected.Flag keyword) →
-      IsWritten b (value.Flag keyword is) (bare line word ∷ bare line (flag_text is) ∷ [])
-  scale : (b : Block) (word : List ℕ) (keyword : ScaleKeyword) (number : ℤ) (line : ℕ) → IsKeyword b word (expected.Scale keyword) →
+  metadata : (smooth : Bool) (b : Block) (key : List ℕ) (keyword : TextKeyword) (given : List ℕ) (line : ℕ) → IsKey b key keyword →
+      IsWritten smooth b (value.Text keyword (named given line)) (quoted line key ∷ quoted line given ∷ [])
+  csv_x : (smooth : Bool) (given : List ℕ) (line : ℕ) → IsWritten smooth block.Layer (value.Text texts.CsvX (named given line)) (setting (codes "CSV_X") given line)
+  csv_y : (smooth : Bool) (given : List ℕ) (line : ℕ) → IsWritten smooth block.Layer (value.Text texts.CsvY (named given line)) (setting (codes "CSV_Y") given line)
+  items : (smooth : Bool) (names : List (List ℕ)) (line : ℕ) → 1 ≤ length names → length names ≤ MAX_ITEMS → All HasNoComma names →
+      IsWritten smooth block.Layer (value.Items names) (setting (codes "ITEMS") (join_with_byte 44 names) line)
+  count : (smooth : Bool) (b : Block) (word : List ℕ) (keyword : CountKeyword) (n line : ℕ) → IsKeyword smooth b word (expected.Count keyword) → IsCount keyword n →
+      IsWritten smooth b (value.Count (record { keyword = keyword; number = n })) (bare line word ∷ bare line (decimal n) ∷ [])
+  flag : (smooth : Bool) (b : Block) (word : List ℕ) (keyword : FlagKeyword) (is : Bool) (line : ℕ) → IsKeyword smooth b word (expected.Flag keyword) →
+      IsWritten smooth b (value.Flag keyword is) (bare line word ∷ bare line (flag_text is) ∷ [])
+  scale : (smooth : Bool) (b : Block) (word : List ℕ) (keyword : ScaleKeyword) (number : ℤ) (line : ℕ) → IsKeyword smooth b word (expected.Scale keyword) →
       unsigned_abs number ≤ NUMBER_LIMIT →
-      IsWritten b (value.Scale keyword number) (bare line word ∷ bare line (written number) ∷ [])
-  no_colour : (b : Block) (word : List ℕ) (keyword : ColourKeyword) (line : ℕ) → IsKeyword b word (expected.Colour keyword) →
-      IsWritten b (value.Colour keyword None) (bare line word ∷ map (bare line) (colour_texts None))
-  some_colour : (b : Block) (word : List ℕ) (keyword : ColourKeyword) (rgb : Rgb) (line : ℕ) → IsKeyword b word (expected.Colour keyword) → IsColour rgb →
-      IsWritten b (value.Colour keyword (Some rgb)) (bare line word ∷ map (bare line) (colour_texts (Some rgb)))
-  geometry : (b : Block) (word : List ℕ) (is : Geometry) (line : ℕ) → IsKeyword b word expected.Geometry →
-      IsWritten b (value.Geometry is) (bare line word ∷ bare line (geometry_text is) ∷ [])
-  pixmap : (b : Block) (word : List ℕ) (line : ℕ) → IsKeyword b word expected.Pixmap →
-      IsWritten b value.Pixmap (bare line word ∷ bare line (codes "PIXMAP") ∷ [])
-  position : (b : Block) (word : List ℕ) (is : Position) (line : ℕ) → IsKeyword b word expected.Position →
-      IsWritten b (value.Position is) (bare line word ∷ bare line (position_text is) ∷ [])
-  equals : (b : Block) (word given : List ℕ) (line : ℕ) → IsKeyword b word expected.Rule →
-      IsWritten b (value.Rule (Equals given)) (bare line word ∷ quoted line given ∷ [])
-  one_of : (b : Block) (word : List ℕ) (texts : List (List ℕ)) (line : ℕ) → IsKeyword b word expected.Rule → 1 ≤ length texts → All HasNoComma texts →
-      IsWritten b (value.Rule (OneOf texts)) (bare line word ∷ listed line (join_with_byte 44 texts) ∷ [])
-  extent : (b : Block) (word : List ℕ) (area : Area) (line : ℕ) → IsKeyword b word expected.West → IsExtent area →
-      IsWritten b (value.Extent area)
+      IsWritten smooth b (value.Scale keyword number) (bare line word ∷ bare line (written number) ∷ [])
+  no_colour : (smooth : Bool) (b : Block) (word : List ℕ) (keyword : ColourKeyword) (line : ℕ) → IsKeyword smooth b word (expected.Colour keyword) →
+      IsWritten smooth b (value.Colour keyword None) (bare line word ∷ map (bare line) (colour_texts None))
+  some_colour : (smooth : Bool) (b : Block) (word : List ℕ) (keyword : ColourKeyword) (rgb : Rgb) (line : ℕ) → IsKeyword smooth b word (expected.Colour keyword) → IsColour rgb →
+      IsWritten smooth b (value.Colour keyword (Some rgb)) (bare line word ∷ map (bare line) (colour_texts (Some rgb)))
+  geometry : (smooth : Bool) (b : Block) (word : List ℕ) (is : Geometry) (line : ℕ) → IsKeyword smooth b word expected.Geometry →
+      IsWritten smooth b (value.Geometry is) (bare line word ∷ bare line (geometry_text is) ∷ [])
+  pixmap : (smooth : Bool) (b : Block) (word : List ℕ) (line : ℕ) → IsKeyword smooth b word expected.Pixmap →
+      IsWritten smooth b (value.SymbolType Pixmap) (bare line word ∷ bare line (codes "PIXMAP") ∷ [])
+  smooth_symbol : (smooth : Bool) (b : Block) (word : List ℕ) (is : SymbolType) (line : ℕ) → IsKeyword smooth b word expected.SymbolType →
+      IsWritten smooth b (value.SymbolType is) (bare line word ∷ bare line (type_text is) ∷ [])
+  radii : (smooth : Bool) (b : Block) (word : List ℕ) (line : ℕ) → IsKeyword smooth b word (expected.Radii 2) →
+      IsWritten smooth b value.Radii (bare line word ∷ bare line (decimal 1) ∷ bare line (decimal 1) ∷ bare line (codes "END") ∷ [])
+  filled : (smooth : Bool) (b : Block) (word : List ℕ) (line : ℕ) → IsKeyword smooth b word expected.Filled →
+      IsWritten smooth b value.Filled (bare line word ∷ bare line (flag_text true) ∷ [])
+  position : (smooth : Bool) (b : Block) (word : List ℕ) (is : Position) (line : ℕ) → IsKeyword smooth b word expected.Position →
+      IsWritten smooth b (value.Position is) (bare line word ∷ bare line (position_text is) ∷ [])
+  equals : (smooth : Bool) (b : Block) (word given : List ℕ) (line : ℕ) → IsKeyword smooth b word expected.Rule →
+      IsWritten smooth b (value.Rule (Equals given)) (bare line word ∷ quoted line given ∷ [])
+  one_of : (smooth : Bool) (b : Block) (word : List ℕ) (texts : List (List ℕ)) (line : ℕ) → IsKeyword smooth b word expected.Rule → 1 ≤ length texts → All HasNoComma texts →
+      IsWritten smooth b (value.Rule (OneOf texts)) (bare line word ∷ listed line (join_with_byte 44 texts) ∷ [])
+  extent : (smooth : Bool) (b : Block) (word : List ℕ) (area : Area) (line : ℕ) → IsKeyword smooth b word expected.West → IsExtent area →
+      IsWritten smooth b (value.Extent area)
       (bare line word ∷ bare line (written area.minx) ∷ bare line (written area.miny) ∷ bare line (written area.maxx) ∷ bare line (written area.maxy) ∷ [])
 
 -- the blocks that a block may have
@@ -247,7 +262,7 @@ pub data IsBlockIn : Block → Block → Type 0 where
 -- is within the limits, and none is wrong at its END.
 pub data IsWrittenOut : Block → Entries → Entries → List TokenValue → Type 0 where
   nothing : (b : Block) (above : Entries) → IsWrittenOut b above Nothing []
-  said : (b : Block) (above before : Entries) (ts : List TokenValue) (v : Value) (us : List TokenValue) → IsWrittenOut b above before ts → IsWritten b v us →
+  said : (b : Block) (above before : Entries) (ts : List TokenValue) (v : Value) (us : List TokenValue) → IsWrittenOut b above before ts → IsWritten (is_smooth (values above)) b v us →
       IsWrittenOut b above (Said v before) (ts ++ us)
   vertex : (above before : Entries) (ts : List TokenValue) (place : Place) → IsWrittenOut block.Points above before ts →
       IsCoordinate place.x → IsCoordinate place.y → vertex_count above before < MAX_VERTICES →

@@ -1,8 +1,8 @@
 ghost use Rattle.std.specs.Prelude.{◌≡◌, OnOk};
 ghost use Rattle.maptree.specs.Answer.{moved};
 
-use crate::stack::Stack;
 use geom::Coordinate;
+use mapvalues::Stack;
 use mapwords::{Block, Expected};
 use std::alloc::AllocError;
 

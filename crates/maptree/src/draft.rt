@@ -5,8 +5,8 @@ ghost use Rattle.maptree.specs.Tree.{is_font};
 
 use crate::parts::PartsDraft;
 use crate::tree::{ClassTree, LayerBody, MapTree};
-use crate::values::Values;
 use mapdefs::{Items, Text};
+use mapvalues::Values;
 use mapwords::{Block, Capped, ColourKeyword, TextKeyword, Value};
 use std::alloc::{AllocError, Global};
 use std::mem;

@@ -1,20 +1,21 @@
 ghost use Rattle.std.specs.Prelude.{◌≡◌, ◌<◌, false, length, option_map, Ok, IfOk, OnOk, MatchResult};
 ghost use Rattle.mapdefs.specs.declared.limits.TheConstants.{MAX_SYMBOLS, MAX_LAYERS, MAX_CLASSES, MAX_STYLES, MAX_FEATURES};
-ghost use Rattle.maptree.specs.Data.{table_fault, with_table};
+ghost use Rattle.maptree.specs.Data.{table_fault, with_named_file};
 ghost use Rattle.maptree.specs.Draft.{is_full};
-ghost use Rattle.maptree.specs.End.{finished_layer, layer_end, finished_symbol, symbol_end, map_end, class_end, style_end, label_end, feature_end, points_end, ends};
+ghost use Rattle.maptree.specs.End.{finished_layer, layer_end, symbol_end, map_end, class_end, style_end, label_end, feature_end, points_end, ends};
 ghost use Rattle.mapwords.specs.Fault.{IsErrorOf};
 ghost use Rattle.mapwords.specs.declared.table.TextKeyword.TheVariants.{Name};
 ghost use Rattle.maptree.specs.Name.{is_taken};
-ghost use Rattle.maptree.specs.Values.{geometry_in, last, text_in};
+ghost use Rattle.mapvalues.specs.Values.{geometry_in, last, text_in};
 
 use crate::draft::{Drafts, FeatureDraft};
 use crate::outline::map_fault;
-use crate::symbol::symbols_fault;
-use crate::tree::{ClassTree, FeatureTree, LayerBody, LayerTree, SymbolTree};
-use crate::values::Values;
+use crate::smoothing::discs_fault;
+use crate::symbol::{finished_symbol, missing_of_symbol, symbols_fault};
+use crate::tree::{ClassTree, FeatureTree, LayerBody, LayerTree};
 use mapdefs::{Duplicate, Geometry, Items};
 use maplex::Token;
+use mapvalues::Values;
 use mapwords::{Block, Fault, Named, ParseFault, ParseKind, TextKeyword, fault_of};
 use std::alloc::{AllocError, Global};
 use std::mem;
@@ -81,34 +82,13 @@ fn finished_layer(
     })
 }
 
-// Adds the file of a layer's table to those that are used, if it has one.
-fn add_table(
-    files: &mut Items<Named>,
-    table: &Option<Named>,
-    alloc: Global,
-) -> Result<(), AllocError>
-    ensures { OnOk result (files.new ≡ with_table table.now files.old) }
+// Adds the file of a symbol or of a layer to those that are used, if it has one.
+fn add_file(files: &mut Items<Named>, file: &Option<Named>, alloc: Global) -> Result<(), AllocError>
+    ensures { OnOk result (files.new ≡ with_named_file file.now files.old) }
 {
-    match table {
-        Some(table) => files.push(table.duplicate(alloc)?),
+    match file {
+        Some(file) => files.push(file.duplicate(alloc)?),
         None => Ok(()),
-    }
-}
-
-// The symbol with its values at its END.
-fn finished_symbol(values: &Values, end: &Token, alloc: Global) -> Result<SymbolTree, ParseFault>
-    ensures { MatchResult result
-        (λ symbol. finished_symbol values.now end.now ≡ Ok symbol)
-        (IsErrorOf (finished_symbol values.now end.now)) }
-{
-    let name = values.text(TextKeyword::Name);
-    let image = values.text(TextKeyword::Image);
-    match (name, values.has_pixmap(), image) {
-        (Some(name), true, Some(image)) => Ok(SymbolTree {
-            name: name.duplicate(alloc)?,
-            image: image.duplicate(alloc)?,
-        }),
-        _ => Err(fault_of(ParseKind::MissingValue, end).into()),
     }
 }
 
@@ -122,12 +102,12 @@ impl Drafts {
     {
         let body = mem::replace(&mut self.layer, LayerBody::new(alloc));
         let layer = finished_layer(body, self.map.layers.as_slice(), end, alloc)?;
-        add_table(&mut self.map.files, &layer.table, alloc)?;
+        add_file(&mut self.map.files, &layer.table, alloc)?;
         self.map.layers.push(layer)?;
         Ok(())
     }
 
-    // Ends a SYMBOL: the map gets it, and uses the file of its image.
+    // Ends a SYMBOL: the map gets it, and uses the file of its image, if it has one.
     fn end_symbol(&mut self, end: &Token, alloc: Global) -> Result<(), ParseFault>
         requires { length self.old.map.symbols < MAX_SYMBOLS }
         ensures { MatchResult result
@@ -136,7 +116,7 @@ impl Drafts {
     {
         let values = mem::replace(&mut self.symbol, Values::new(alloc));
         let symbol = finished_symbol(&values, end, alloc)?;
-        self.map.files.push(symbol.image.duplicate(alloc)?)?;
+        add_file(&mut self.map.files, &symbol.image, alloc)?;
         self.map.symbols.push(symbol)?;
         Ok(())
     }
@@ -156,6 +136,11 @@ impl Drafts {
     // Whether a style names a symbol that the map doesn't have.
     fn lacks_symbol(&self) -> bool {
         symbols_fault(self.map.symbols.as_slice(), self.map.layers.as_slice()).is_some()
+    }
+
+    // Whether the map has discs, but isn't smoothed.
+    fn lacks_smoothing(&self) -> bool {
+        discs_fault(&self.map.values, self.map.symbols.as_slice()).is_some()
     }
 
     // Ends a CLASS: the layer gets it.
@@ -246,14 +231,13 @@ impl Drafts {
     }
 
     /// The first part that the open block lacks of those that its END requires, as its keyword or in a word, for MAP a SYMBOL
-    /// that a style names. It is `None` where it lacks nothing.
+    /// that a style names, or a WMS_SMOOTHING above 1 for its discs. It is `None` where it lacks nothing.
     pub fn missing_part(&self, block: Block) -> Option<&'static str> {
         let layer = &self.layer.values;
         match block {
             Block::Map if self.lacks_symbol() => Some("SYMBOL"),
-            Block::Symbol if self.symbol.text(TextKeyword::Name).is_none() => Some("NAME"),
-            Block::Symbol if !self.symbol.has_pixmap() => Some("TYPE"),
-            Block::Symbol if self.symbol.text(TextKeyword::Image).is_none() => Some("IMAGE"),
+            Block::Map if self.lacks_smoothing() => Some("WMS_SMOOTHING"),
+            Block::Symbol => missing_of_symbol(&self.symbol),
             Block::Layer if layer.text(TextKeyword::Name).is_none() => Some("NAME"),
             Block::Layer if layer.geometry().is_none() => Some("TYPE"),
             Block::Feature if self.feature.parts.is_empty() => Some("POINTS"),

@@ -1,11 +1,14 @@
 ghost use Rattle.std.specs.Prelude.{◌≡◌, ◌≤◌, IfSome, option_map, option_and_then};
 ghost use Rattle.mapdefs.specs.declared.limits.TheConstants.{MAX_OUTLINE_WIDTH};
+ghost use Rattle.std.specs.Option.{option_or};
+ghost use Rattle.maptree.specs.Smoothing.{discs_fault};
 ghost use Rattle.maptree.specs.Symbol.{first_fault};
-ghost use Rattle.maptree.specs.Outline.{class_width_fault, label_width_fault, layer_width_fault, map_fault, outline_width_of, smoothing_in, width_fault, width_in, widths_fault};
+ghost use Rattle.maptree.specs.Outline.{class_width_fault, label_width_fault, layer_width_fault, map_fault, outline_width_of, width_fault, width_in, widths_fault};
 
+use crate::smoothing::{discs_fault, is_smooth};
 use crate::symbol::symbols_fault;
 use crate::tree::{ClassTree, LayerTree, MapTree};
-use crate::values::Values;
+use mapvalues::Values;
 use mapwords::{Count, CountKeyword, Fault, Named, ParseKind, TextKeyword};
 
 // The width that a text is, if it is one.
@@ -62,18 +65,11 @@ fn layer_width_fault(layer: &LayerTree) -> Option<Fault>
     None
 }
 
-// How many times as fine the pictures of a map are.
-fn smoothing_in(given: &Values) -> u16
-    ensures { result ≡ smoothing_in given.now }
-{
-    given.count(CountKeyword::Smoothing).unwrap_or(1)
-}
-
 // The fault of the first layer, in the order of the mapfile, of which a label has one, where the map is smoothed.
 fn widths_fault(given: &Values, layers: &[LayerTree]) -> Option<Fault>
     ensures { result ≡ widths_fault given.now layers.now }
 {
-    if smoothing_in(given) > 1 {
+    if is_smooth(given) {
         first_width_fault(layers)
     } else {
         None
@@ -92,13 +88,23 @@ fn first_width_fault(layers: &[LayerTree]) -> Option<Fault>
     None
 }
 
-/// What is wrong at the END of MAP: a style that names no symbol, or else a label whose outline has no width in a smoothed map.
+// What is wrong with discs in a map that isn't smoothed, or else with the outlines of a smoothed one.
+fn smooth_fault(map: &MapTree) -> Option<Fault>
+    ensures { result ≡ option_or (discs_fault map.now.values map.now.symbols) (widths_fault map.now.values map.now.layers) }
+{
+    match discs_fault(&map.values, map.symbols.as_slice()) {
+        Some(fault) => Some(fault),
+        None => widths_fault(&map.values, map.layers.as_slice()),
+    }
+}
+
+/// What is wrong at the END of MAP: a style that names no symbol, or else a disc where the map isn't smoothed, or a label whose
+/// outline has no width in a smoothed map.
 pub fn map_fault(map: &MapTree) -> Option<Fault>
     ensures { result ≡ map_fault map.now.values map.now.symbols map.now.layers }
 {
-    let layers = map.layers.as_slice();
-    match symbols_fault(map.symbols.as_slice(), layers) {
+    match symbols_fault(map.symbols.as_slice(), map.layers.as_slice()) {
         Some(fault) => Some(fault),
-        None => widths_fault(&map.values, layers),
+        None => smooth_fault(map),
     }
 }

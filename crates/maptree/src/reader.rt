@@ -5,9 +5,9 @@ ghost use Rattle.maptree.specs.Pass.{map_body};
 
 use crate::context::{Context, go_on};
 use crate::draft::Drafts;
-use crate::stack::Stack;
 use crate::tree::MapTree;
 use maplex::{Tail, Token};
+use mapvalues::Stack;
 use mapwords::{Block, Fault, ParseFault, ParseKind, fault_of, missing};
 use std::alloc::{AllocError, Global};
 

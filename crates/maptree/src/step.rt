@@ -5,16 +5,18 @@ ghost use Rattle.mapwords.specs.declared.role.Block.{Block as BlockValue};
 ghost use Rattle.maptree.specs.declared.draft.Drafts.{Drafts as DraftsValue};
 ghost use Rattle.mapwords.specs.Keyword.{keyword_at};
 ghost use Rattle.maptree.specs.Parts.{vertex_count};
-ghost use Rattle.mapwords.specs.Table.{role_of};
+ghost use Rattle.mapwords.specs.Table.{role_in, role_of};
+ghost use Rattle.maptree.specs.Smoothing.{is_smooth};
 ghost use Rattle.maptree.specs.Step.{read_end, read_keyword, note_step, read_value, coordinate_at, read_longitude, read_latitude, skip, read_pair, read_token};
 
 use crate::context::{Context, Move};
 use crate::draft::Drafts;
+use crate::smoothing::is_smooth;
 use geom::{Coordinate, World};
 use maplex::Token;
 use mapwords::{
     Block, Expected, Fault, Keyword, ParseFault, ParseKind, Role, ValueStep, coordinate_in,
-    fault_of, is_end, is_value, pair_expects, role_of, value_step,
+    fault_of, is_early_end, is_end, is_value, pair_expects, role_in, role_of, value_step,
 };
 use std::alloc::{AllocError, Global};
 
@@ -55,7 +57,7 @@ fn read_step(expected: Expected, token: &Token, alloc: Global) -> Result<ValueSt
         (λ step. read_value b expected d token.now ≡ note_step b (Ok step) d)
         (IsErrorOf (read_value b expected d token.now)) }
 {
-    if is_end(token) {
+    if is_early_end(&expected, token) {
         return Err(fault_of(ParseKind::MissingValue, token).into());
     }
     value_step(expected, token, alloc)
@@ -75,6 +77,16 @@ impl Drafts {
         Ok(Move::Leaves)
     }
 
+    // What a keyword does in a block. What the MAP said before a SYMBOL may let that be a disc.
+    fn role_of(&self, block: Block, keyword: Keyword) -> Option<Role>
+        ensures { result ≡ role_in block (is_smooth self.now.map.values) keyword }
+    {
+        match block {
+            Block::Symbol => role_in(block, is_smooth(&self.map.values), keyword),
+            _ => role_in(block, false, keyword),
+        }
+    }
+
     // Reads a keyword of a block.
     fn read_keyword(
         &mut self,
@@ -87,7 +99,7 @@ impl Drafts {
             (IsErrorOf (read_keyword block self.old token.now)) }
     {
         let role = match Keyword::at(token) {
-            Some(keyword) => role_of(block, keyword),
+            Some(keyword) => self.role_of(block, keyword),
             None => None,
         };
         match role {

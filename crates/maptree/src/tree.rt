@@ -1,8 +1,8 @@
 use crate::parts::Parts;
-use crate::values::Values;
 use mapdefs::{
     Geometry, Items, MAX_CLASSES, MAX_FEATURES, MAX_LAYERS, MAX_STYLES, MAX_SYMBOLS, Text,
 };
+use mapvalues::Values;
 use mapwords::{Capped, Named};
 
 /// A MAP as it is written.
@@ -22,8 +22,8 @@ pub struct MapTree {
 #[derive(Drop)]
 pub struct SymbolTree {
     pub name: Named,
-    /// The name of the file that its pixmap is in.
-    pub image: Named,
+    /// The name of the file that its pixmap is in. A disc has none.
+    pub image: Option<Named>,
 }
 
 /// A LAYER as it is written.

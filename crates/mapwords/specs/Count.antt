@@ -1,12 +1,11 @@
 -- Numbers, and counts within bounds (docs/MAPFILE.md, "Numbers" and "Labels").
-use Rattle.std.specs.Prelude.{ℕ, zero, ◌==◌, ◌&&◌, nat_le, if◌then◌else◌, List, codes, ℤ, pos, negsuc, Option, None, Some, option_map, option_and_then}
+use Rattle.std.specs.Prelude.{ℕ, zero, ◌==◌, ◌&&◌, nat_le, if◌then◌else◌, List, ℤ, pos, negsuc, Option, None, Some, option_map, option_and_then}
 use Rattle.std.specs.Result.{result_ok}
 use Rattle.geom.specs.declared.micro.TheConstants.{NUMBER_LIMIT}
 use Rattle.geom.specs.Decimal.{reading}
 use Rattle.geom.specs.Number.{count_of}
-use Rattle.mapdefs.specs.Name.{is_same_name}
 use Rattle.mapwords.specs.declared.table.CountKeyword.{CountKeyword}
-use Rattle.mapwords.specs.declared.table.CountKeyword.TheVariants.{MinDistance, Smoothing}
+use Rattle.mapwords.specs.declared.table.CountKeyword.TheVariants.{MinDistance}
 use Rattle.mapwords.specs.Table.{count_number, least_of, most_of}
 
 -- the number that a text means, in millionths
@@ -36,19 +35,6 @@ counted keyword text = option_and_then (bounded (least_of keyword) (most_of keyw
 -- it is a count of the keyword
 abbrev pub read_count : CountKeyword → List ℕ → Option CountValue
 read_count keyword text = option_map (λ n. record { keyword = keyword; number = n }) (counted keyword text)
-
--- the digit that each smoothing is written as
-abbrev pub smoothing_of : List ℕ → Option ℕ
-smoothing_of text =
-    if is_same_name text (codes "1") then Some 1
-    else if is_same_name text (codes "2") then Some 2
-    else if is_same_name text (codes "3") then Some 3
-    else if is_same_name text (codes "4") then Some 4
-    else None
-
--- it is a count of its keyword
-abbrev pub read_smoothing : List ℕ → Option CountValue
-read_smoothing text = option_map (λ n. record { keyword = Smoothing; number = n }) (smoothing_of text)
 
 -- the number of a count, if it is one of this keyword
 abbrev pub number_of : CountKeyword → CountValue → Option ℕ

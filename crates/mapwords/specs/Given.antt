@@ -13,7 +13,7 @@ use Rattle.mapwords.specs.declared.fault.Fault.{Fault}
 use Rattle.mapwords.specs.declared.fault.ParseKind.TheVariants.{MissingValue}
 use Rattle.mapwords.specs.Fault.{refused, missing}
 use Rattle.mapdefs.specs.Outcome.{and_then}
-use Rattle.mapwords.specs.Keyword.{is_end}
+use Rattle.mapwords.specs.Symbol.{is_early_end}
 use Rattle.mapwords.specs.Value.{is_value, value_step}
 
 -- a value that was given, and the tokens after it
@@ -24,7 +24,7 @@ pub record Given : Type 0 where
 -- the value that a keyword takes of the tokens after it
 unfoldable pub value_in : Tail → Expected → List TokenValue → Result Given Fault
 value_in tail expected [] = Err (missing tail)
-value_in tail expected (t ∷ ts) = if is_end t then refused MissingValue t else and_then (value_step expected t) (λ step. elim step [
+value_in tail expected (t ∷ ts) = if is_early_end expected t then refused MissingValue t else and_then (value_step expected t) (λ step. elim step [
   | More next ↦ value_in tail next ts
   | Whole value ↦ Ok (record { value = value; rest = ts })
 ])

@@ -6,7 +6,7 @@ use Rattle.maplex.specs.declared.token.Shape.{Shape}
 use Rattle.maplex.specs.declared.token.Shape.TheVariants.{Word}
 use Rattle.maplex.specs.Token.{TokenValue}
 use Rattle.mapwords.specs.declared.keyword.Keyword.{Keyword}
-use Rattle.mapwords.specs.declared.keyword.Keyword.TheVariants.{End, Points, Feature, Text, Items, Layer, Class, Style, Label, Name, GeometryType, Expression, Color, OutlineColor, Width, Size, Symbol, Priority, Position, AnchorPoint, Angle, Antialias, Buffer, ClassItem, Config, Data, Debug, Dump, Empty, Encoding, Error, Extent, Font, FontSet, Footer, Force, Group, Header, Image, ImageColor, ImagePath, ImageType, ImageUrl, LabelCache, LabelItem, LabelMaxScaleDenom, LabelMinScaleDenom, Legend, Log, Map, MaxScaleDenom, MaxSize, MaxWidth, Metadata, MinDistance, MinFeatureSize, MinScaleDenom, MinSize, MinWidth, Offset, OutlineWidth, OutputFormat, Partials, Processing, Projection, QueryMap, Reference, RepeatDistance, Resolution, ScaleBar, ShapePath, Status, Template, Title, Tolerance, ToleranceUnits, Transparent, Units, Validation, Web}
+use Rattle.mapwords.specs.declared.keyword.Keyword.TheVariants.{End, Points, Feature, Text, Items, Layer, Class, Style, Label, Name, GeometryType, Expression, Color, OutlineColor, Width, Size, Symbol, Priority, Position, AnchorPoint, Angle, Antialias, Buffer, ClassItem, Config, Data, Debug, Dump, Empty, Encoding, Error, Extent, Filled, Font, FontSet, Footer, Force, Group, Header, Image, ImageColor, ImagePath, ImageType, ImageUrl, LabelCache, LabelItem, LabelMaxScaleDenom, LabelMinScaleDenom, Legend, Log, Map, MaxScaleDenom, MaxSize, MaxWidth, Metadata, MinDistance, MinFeatureSize, MinScaleDenom, MinSize, MinWidth, Offset, OutlineWidth, OutputFormat, Partials, Processing, Projection, QueryMap, Reference, RepeatDistance, Resolution, ScaleBar, ShapePath, Status, Template, Title, Tolerance, ToleranceUnits, Transparent, Units, Validation, Web}
 
 -- how a keyword is written
 unfoldable pub spelling : Keyword → List ℕ
@@ -42,6 +42,7 @@ spelling Empty = codes "EMPTY"
 spelling Encoding = codes "ENCODING"
 spelling Error = codes "ERROR"
 spelling Extent = codes "EXTENT"
+spelling Filled = codes "FILLED"
 spelling Font = codes "FONT"
 spelling FontSet = codes "FONTSET"
 spelling Footer = codes "FOOTER"
@@ -96,7 +97,7 @@ abbrev pub keywords : List Keyword
 keywords =
     End ∷ Points ∷ Feature ∷ Text ∷ Items ∷ Layer ∷ Class ∷ Style ∷ Label ∷ Name ∷ GeometryType ∷ Expression ∷ Color ∷
     OutlineColor ∷ Width ∷ Size ∷ Symbol ∷ Priority ∷ Position ∷ AnchorPoint ∷ Angle ∷ Antialias ∷ Buffer ∷ ClassItem ∷
-    Config ∷ Data ∷ Debug ∷ Dump ∷ Empty ∷ Encoding ∷ Error ∷ Extent ∷ Font ∷ FontSet ∷ Footer ∷ Force ∷ Group ∷ Header
+    Config ∷ Data ∷ Debug ∷ Dump ∷ Empty ∷ Encoding ∷ Error ∷ Extent ∷ Filled ∷ Font ∷ FontSet ∷ Footer ∷ Force ∷ Group ∷ Header
     ∷ Image ∷ ImageColor ∷ ImagePath ∷ ImageType ∷ ImageUrl ∷ LabelCache ∷ LabelItem ∷ LabelMaxScaleDenom ∷
     LabelMinScaleDenom ∷ Legend ∷ Log ∷ Map ∷ MaxScaleDenom ∷ MaxSize ∷ MaxWidth ∷ Metadata ∷ MinDistance ∷
     MinFeatureSize ∷ MinScaleDenom ∷ MinSize ∷ MinWidth ∷ Offset ∷ OutlineWidth ∷ OutputFormat ∷ Partials ∷ Processing ∷

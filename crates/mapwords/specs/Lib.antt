@@ -8,5 +8,7 @@ pub mod Label
 pub mod Offer
 pub mod Rule
 pub mod Setting
+pub mod Smoothing
+pub mod Symbol
 pub mod Table
 pub mod Value

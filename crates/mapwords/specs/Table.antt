@@ -1,6 +1,5 @@
 -- The keywords of each block, and the bounds of counts (docs/MAPFILE.md, "Blocks and words" and "Numbers").
-use Rattle.std.specs.Prelude.{ℕ, Option, None, Some}
-use Rattle.geom.specs.declared.factor.TheConstants.{MAX_FACTOR}
+use Rattle.std.specs.Prelude.{ℕ, Bool, true, Option, None, Some}
 use Rattle.mapdefs.specs.declared.limits.TheConstants.{MAX_LINE_WIDTH, MAX_SQUARE, MAX_TOLERANCE, MAX_PRIORITY, MAX_BUFFER, MAX_DISTANCE, MAX_OUTLINE_WIDTH}
 use Rattle.mapwords.specs.declared.role.Block.{Block}
 use Rattle.mapwords.specs.declared.role.Block.TheVariants as block
@@ -49,8 +48,7 @@ count_number count.Tolerance = 2
 count_number count.Priority = 3
 count_number count.Buffer = 4
 count_number count.MinDistance = 5
-count_number count.Smoothing = 6
-count_number count.OutlineWidth = 7
+count_number count.OutlineWidth = 6
 
 -- for each that takes TRUE or FALSE, and for what a CONFIG offers
 abbrev pub flag_number : FlagKeyword → ℕ
@@ -78,7 +76,6 @@ least_of count.Tolerance = 0
 least_of count.Priority = 1
 least_of count.Buffer = 0
 least_of count.MinDistance = 0
-least_of count.Smoothing = 1
 least_of count.OutlineWidth = 1
 
 -- and the greatest
@@ -89,7 +86,6 @@ most_of count.Tolerance = MAX_TOLERANCE
 most_of count.Priority = MAX_PRIORITY
 most_of count.Buffer = MAX_BUFFER
 most_of count.MinDistance = MAX_DISTANCE
-most_of count.Smoothing = MAX_FACTOR
 most_of count.OutlineWidth = MAX_OUTLINE_WIDTH
 
 -- the keywords of MAP
@@ -146,6 +142,13 @@ symbol_role keyword.Transparent = Some (Takes (expected.Unused 0))
 symbol_role keyword.AnchorPoint = Some (Takes (expected.Unused 1))
 symbol_role keyword.End = Some Closes
 symbol_role _ = None
+
+-- in a smoothed map it may be a disc, too
+abbrev pub smooth_symbol_role : Keyword → Option Role
+smooth_symbol_role keyword.GeometryType = Some (Takes expected.SymbolType)
+smooth_symbol_role keyword.Points = Some (Takes (expected.Radii 2))
+smooth_symbol_role keyword.Filled = Some (Takes expected.Filled)
+smooth_symbol_role keyword = symbol_role keyword
 
 -- the keywords of LAYER that are read without effect
 abbrev pub unused_layer_role : Keyword → Option Role
@@ -281,3 +284,8 @@ role_of block.Feature k = feature_role k
 role_of block.Skipped k = skipped_role k
 role_of block.SkippedLabel k = skipped_label_role k
 role_of _ k = end_role k
+
+-- the same in a map that is smoothed, or isn't
+abbrev pub role_in : Block → Bool → Keyword → Option Role
+role_in block.Symbol true k = smooth_symbol_role k
+role_in b smooth k = role_of b k

@@ -32,7 +32,9 @@ use Rattle.mapwords.specs.declared.offer.Offer.TheVariants as offer
 use Rattle.mapwords.specs.Offer.{offered}
 use Rattle.mapwords.specs.Rule.{rule_of}
 use Rattle.mapwords.specs.Setting.{setting_step}
-use Rattle.mapwords.specs.Count.{read_count, read_smoothing, number_in}
+use Rattle.mapwords.specs.Smoothing.{read_smoothing}
+use Rattle.mapwords.specs.Symbol.{pixmap_step, type_step, radii_step, filled_step}
+use Rattle.mapwords.specs.Count.{read_count, number_in}
 use Rattle.mapwords.specs.Colour.{component_of, rgb_of, hex_colour}
 
 -- a text that a keyword was given, and the line of its token
@@ -46,10 +48,6 @@ geometry_of text =
     else if str_eq_ignore_ascii_case text (codes "LINE") then Some Line
     else if str_eq_ignore_ascii_case text (codes "POLYGON") then Some Polygon
     else None
-
--- a symbol is a pixmap; the word may be in letters of either case
-abbrev pub pixmap_step : List ℕ → Option ValueStep
-pixmap_step text = if str_eq_ignore_ascii_case text (codes "PIXMAP") then Some (Whole value.Pixmap) else None
 
 -- a value is a bare word or a quoted text
 abbrev pub is_value : Shape → Bool
@@ -125,6 +123,9 @@ config_step key =
 abbrev pub plain_step : Expected → TokenValue → Option ValueStep
 plain_step expected.Geometry t = option_map (λ geometry. Whole (value.Geometry geometry)) (geometry_of t.text)
 plain_step expected.Pixmap t = pixmap_step t.text
+plain_step expected.SymbolType t = type_step t.text
+plain_step (expected.Radii left) t = radii_step left t
+plain_step expected.Filled t = filled_step t.text
 plain_step (expected.Count keyword) t = option_map (λ count. Whole (value.Count count)) (read_count keyword t.text)
 plain_step expected.Position t = option_map (λ p. Whole (value.Position p)) (position_of t.text)
 plain_step (expected.Flag keyword) t = option_map (λ flag. Whole (value.Flag keyword flag)) (flag_of t.text)
@@ -140,7 +141,7 @@ plain_step (expected.Only word) t = only_step word t.text
 plain_step expected.ConfigKey t = Some (config_step t.text)
 plain_step expected.Formats t = option_map (λ is_offered. Whole (value.Flag Png is_offered)) (offered offer.Png t.text)
 plain_step expected.Systems t = option_map (λ is_offered. Whole (value.Flag Mercator is_offered)) (offered offer.Mercator t.text)
-plain_step expected.Smoothing t = option_map (λ count. Whole (value.Count count)) (read_smoothing t.text)
+plain_step expected.Smoothing t = option_map (λ smoothing. Whole (value.Smoothing smoothing)) (read_smoothing t.text t.line)
 plain_step (expected.Unused more) t = Some (unused_step more)
 plain_step _ t = None
 

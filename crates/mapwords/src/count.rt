@@ -1,5 +1,5 @@
 ghost use Rattle.std.specs.Prelude.{◌≡◌, ◌≤◌, IfSome};
-ghost use Rattle.mapwords.specs.Count.{read_count, read_smoothing, counted, none_as_zero, number_of, smoothing_of};
+ghost use Rattle.mapwords.specs.Count.{read_count, counted, none_as_zero, number_of};
 ghost use Rattle.mapwords.specs.Table.{least_of, most_of};
 
 use crate::table::CountKeyword;
@@ -49,40 +49,12 @@ fn counted(keyword: CountKeyword, text: &str) -> Option<u16>
     }
 }
 
-// The smoothing that a text is.
-fn smoothing_of(text: &str) -> Option<u16>
-    ensures value { result ≡ smoothing_of text.now }
-    ensures least { IfSome result (λ n. 1 ≤ n) }
-    ensures most { IfSome result (λ n. n ≤ 4) }
-{
-    if text == "1" {
-        Some(1)
-    } else if text == "2" {
-        Some(2)
-    } else if text == "3" {
-        Some(3)
-    } else if text == "4" {
-        Some(4)
-    } else {
-        None
-    }
-}
-
 impl Count {
     /// The count of a keyword that a text is, if it is within the bounds of the keyword.
     pub fn read(keyword: CountKeyword, text: &str) -> Option<Count>
         ensures { result ≡ read_count keyword text.now }
     {
         let number = counted(keyword, text)?;
-        Some(Count { keyword, number })
-    }
-
-    /// The smoothing that a text is: 1, 2, 3 or 4, as this one digit.
-    pub fn read_smoothing(text: &str) -> Option<Count>
-        ensures { result ≡ read_smoothing text.now }
-    {
-        let number = smoothing_of(text)?;
-        let keyword = CountKeyword::Smoothing;
         Some(Count { keyword, number })
     }
 

@@ -39,6 +39,7 @@ pub enum Keyword {
     Encoding,
     Error,
     Extent,
+    Filled,
     Font,
     FontSet,
     Footer,
@@ -91,7 +92,7 @@ pub enum Keyword {
 
 // Each keyword with its spelling, in the order of the enum: those first that mapfiles have most often, since a word is
 // compared with them in this order.
-const KEYWORDS: [(Keyword, &str); 80] = [
+const KEYWORDS: [(Keyword, &str); 81] = [
     (Keyword::End, "END"),
     (Keyword::Points, "POINTS"),
     (Keyword::Feature, "FEATURE"),
@@ -124,6 +125,7 @@ const KEYWORDS: [(Keyword, &str); 80] = [
     (Keyword::Encoding, "ENCODING"),
     (Keyword::Error, "ERROR"),
     (Keyword::Extent, "EXTENT"),
+    (Keyword::Filled, "FILLED"),
     (Keyword::Font, "FONT"),
     (Keyword::FontSet, "FONTSET"),
     (Keyword::Footer, "FOOTER"),

@@ -13,6 +13,7 @@
 //! is *expected* is the value, or the next token of it.
 #![tactic(auto)]
 
+mod block_keywords;
 mod capped;
 mod colour;
 mod count;
@@ -27,10 +28,13 @@ mod offer;
 mod role;
 mod rule;
 mod setting;
+mod smoothing;
+mod symbol;
 mod table;
 mod texts;
 mod value;
 
+pub use block_keywords::{role_in, role_of};
 pub use capped::Capped;
 pub use count::Count;
 pub use extent::Extent;
@@ -40,8 +44,8 @@ pub use named::Named;
 pub use role::{Block, Expected, Role};
 pub use rule::ClassRule;
 pub use setting::pair_expects;
-pub use table::{
-    ColourKeyword, CountKeyword, FlagKeyword, OnlyWord, ScaleKeyword, TextKeyword, role_of,
-};
+pub use smoothing::Smoothing;
+pub use symbol::{SymbolType, is_early_end};
+pub use table::{ColourKeyword, CountKeyword, FlagKeyword, OnlyWord, ScaleKeyword, TextKeyword};
 pub use texts::texts_of;
 pub use value::{Value, ValueStep, coordinate_in, is_value, value_step};

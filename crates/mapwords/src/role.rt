@@ -37,8 +37,14 @@ pub enum Expected {
     Geometry,
     /// The name of the file of a layer's table.
     Table,
-    /// The kind of a symbol, which is PIXMAP.
+    /// The type of a symbol, which is PIXMAP.
     Pixmap,
+    /// The type of a symbol of a smoothed map: PIXMAP or ELLIPSE.
+    SymbolType,
+    /// The radii of a disc, 1 each, of which so many are still to come, and END after them.
+    Radii(u8),
+    /// TRUE, which fills a disc.
+    Filled,
     /// A count.
     Count(CountKeyword),
     /// Where a label lies.

@@ -3,7 +3,7 @@ ghost use Rattle.mapwords.specs.declared.value.ValueStep.TheVariants.{Whole, Mor
 ghost use Rattle.mapwords.specs.Fault.{IsErrorOf};
 ghost use Rattle.mapwords.specs.declared.value.Value.TheVariants as ValueTree;
 ghost use Rattle.mapwords.specs.Colour.{component_of};
-ghost use Rattle.mapwords.specs.Value.{geometry_of, pixmap_step, is_value, hex_at, colour_step, green_step, blue_step, only_text, only_step, unused_step, west_step, south_step, east_step, north_step, config_step, is_table_name, table_step, rule_step, plain_step, step_in, may_take, value_step, coordinate_in};
+ghost use Rattle.mapwords.specs.Value.{geometry_of, is_value, hex_at, colour_step, green_step, blue_step, only_text, only_step, unused_step, west_step, south_step, east_step, north_step, config_step, is_table_name, table_step, rule_step, plain_step, step_in, may_take, value_step, coordinate_in};
 
 use crate::capped::Capped;
 use crate::colour::{Component, hex_colour, rgb_of};
@@ -17,6 +17,8 @@ use crate::offer::Offer;
 use crate::role::Expected;
 use crate::rule::{ClassRule, RuleError};
 use crate::setting::setting_step;
+use crate::smoothing::Smoothing;
+use crate::symbol::{SymbolType, filled_step, pixmap_step, radii_step, type_step};
 use crate::table::{ColourKeyword, FlagKeyword, OnlyWord, ScaleKeyword, TextKeyword};
 use geom::{Coordinate, Micro};
 use mapdefs::{Geometry, MAX_ITEMS, Position, Rgb, Text};
@@ -32,13 +34,17 @@ pub enum Value {
     Scale(ScaleKeyword, Micro),
     Colour(ColourKeyword, Option<Rgb>),
     Geometry(Geometry),
-    /// The kind of a symbol.
-    Pixmap,
+    SymbolType(SymbolType),
+    /// The radii of a disc, which are 1 each.
+    Radii,
+    /// That a disc is filled.
+    Filled,
     Position(Position),
     Rule(ClassRule),
     /// The names of a layer's items.
     Items(Capped<Text, MAX_ITEMS>),
     Extent(Extent),
+    Smoothing(Smoothing),
     /// The end of values that have no effect.
     Nothing,
 }
@@ -72,17 +78,6 @@ fn geometry_of(text: &str) -> Option<Geometry>
         Some(Geometry::Line)
     } else if text.eq_ignore_ascii_case("POLYGON") {
         Some(Geometry::Polygon)
-    } else {
-        None
-    }
-}
-
-// Reads the kind of a symbol.
-fn pixmap_step(text: &str) -> Option<ValueStep>
-    ensures { result ≡ pixmap_step text.now }
-{
-    if text.eq_ignore_ascii_case("PIXMAP") {
-        Some(ValueStep::Whole(Value::Pixmap))
     } else {
         None
     }
@@ -248,6 +243,9 @@ fn plain_step(expected: Expected, token: &Token) -> Option<ValueStep>
     match expected {
         Expected::Geometry => whole(geometry_of(text).map(Value::Geometry)),
         Expected::Pixmap => pixmap_step(text),
+        Expected::SymbolType => type_step(text),
+        Expected::Radii(left) => radii_step(left, token),
+        Expected::Filled => filled_step(text),
         Expected::Count(keyword) => whole(Count::read(keyword, text).map(Value::Count)),
         Expected::Position => whole(position_of(text).map(Value::Position)),
         Expected::Flag(keyword) => whole(flag_of(text).map(|flag| Value::Flag(keyword, flag))),
@@ -265,7 +263,7 @@ fn plain_step(expected: Expected, token: &Token) -> Option<ValueStep>
         Expected::ConfigKey => Some(config_step(text)),
         Expected::Formats => offer_step(FlagKeyword::Png, Offer::Png.offered(text)),
         Expected::Systems => offer_step(FlagKeyword::Mercator, Offer::Mercator.offered(text)),
-        Expected::Smoothing => whole(Count::read_smoothing(text).map(Value::Count)),
+        Expected::Smoothing => whole(Smoothing::read(text, token.line).map(Value::Smoothing)),
         Expected::Unused(more) => Some(unused_step(more)),
         // They are kept as texts.
         Expected::Text(_) | Expected::Table | Expected::Rule | Expected::Setting => None,
