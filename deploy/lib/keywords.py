@@ -52,6 +52,7 @@ CONVERT = "use deploy/convert, or deploy/features"
 LEAVE_OUT = "leave it out"
 IN_STYLE = "write it into a STYLE of the CLASS"
 PIXMAP = "draw the symbol as a pixmap, as deploy/convert does, or leave SYMBOL out for a square"
+CIRCLE = f'behind CONFIG "WMS_SMOOTHING" a disc is read, of TYPE ELLIPSE, POINTS 1 1 END and FILLED TRUE; else {PIXMAP}'
 PER_CLASS = "write a CLASS for each value that occurs"
 
 # Keywords of MapServer that are refused, by their block, with what to do instead.
@@ -66,9 +67,9 @@ REFUSED = {
         "MINSCALE": LEAVE_OUT, "MINTEMPLATE": LEAVE_OUT, "QUERYFORMAT": LEAVE_OUT, "TEMPPATH": LEAVE_OUT,
     },
     "SYMBOL": {
-        "ANTIALIAS": LEAVE_OUT, "CHARACTER": PIXMAP, "FILLED": PIXMAP, "FONT": PIXMAP, "GAP": LEAVE_OUT,
+        "ANTIALIAS": LEAVE_OUT, "CHARACTER": PIXMAP, "FILLED": CIRCLE, "FONT": PIXMAP, "GAP": LEAVE_OUT,
         "LINECAP": LEAVE_OUT, "LINEJOIN": LEAVE_OUT, "LINEJOINMAXSIZE": LEAVE_OUT,
-        "PATTERN": "leave it out: lines are never dashed", "POINTS": PIXMAP,
+        "PATTERN": "leave it out: lines are never dashed", "POINTS": CIRCLE,
         "STYLE": "leave it out: lines are never dashed",
     },
     "LAYER": {
@@ -179,7 +180,7 @@ REASONS = {
     "CLASS TITLE": "deploy/legend has it as the title of the class",
     "ANTIALIAS": "a map is smoothed as a whole, by CONFIG \"WMS_SMOOTHING\"",
     "SYMBOL TRANSPARENT": "pixels of the colour 255 0 255 are transparent",
-    "SYMBOL ANCHORPOINT": "a pixmap stands centred on its point",
+    "SYMBOL ANCHORPOINT": "a symbol stands centred on its point",
     "LAYER GROUP": "the layers of the document have no groups",
     "LAYER EXTENT": "the extent is that of the MAP",
     "LABELMAXSCALEDENOM": "write MAXSCALEDENOM into the CLASS",
@@ -237,6 +238,11 @@ CHOICES = {
     "LABEL PARTIALS": "TRUE FALSE", "LABEL FORCE": "TRUE FALSE", "LAYER LABELCACHE": "ON",
     "LAYER TOLERANCEUNITS": "PIXELS",
 }
+# What a SYMBOL of a smoothed map has for discs: keywords that are refused in others, with the number of their values, the values
+# that it takes, and what it requires of a disc.
+DISC_COUNTS = {"POINTS": 0, "FILLED": 1}
+DISC_CHOICES = {"SYMBOL TYPE": "PIXMAP ELLIPSE", "SYMBOL FILLED": "TRUE"}
+DISC_REQUIRED = ["NAME", "POINTS", "FILLED"]
 # The names that a key of CONFIG takes, with spaces between them.
 OFFERED = {"WMS_FORMATS": "image/png image/x-portable-pixmap image/x-portable-arbitrarymap", "WMS_CRS": "EPSG:3857"}
 # The values of the key WMS_SMOOTHING.
@@ -251,7 +257,7 @@ VALUES = {
         "CIRCLE": "write POLYGON, with the circle's vertices", "QUERY": "leave the layer out",
         "CHART": "leave the layer out: charts aren't drawn", "TILEINDEX": CONVERT,
     },
-    "SYMBOL TYPE": dict.fromkeys(("ELLIPSE", "VECTOR", "TRUETYPE", "SVG", "HATCH", "SIMPLE", "CARTOLINE"), PIXMAP),
+    "SYMBOL TYPE": {"ELLIPSE": CIRCLE, **dict.fromkeys(("VECTOR", "TRUETYPE", "SVG", "HATCH", "SIMPLE", "CARTOLINE"), PIXMAP)},
     "LABEL POSITION": {"FOLLOW": "write AUTO: labels don't follow lines"},
     "LAYER TOLERANCEUNITS": dict.fromkeys(("METERS", "FEET", "INCHES", "KILOMETERS", "MILES", "DD"), "write TOLERANCE in pixels"),
     "LAYER LABELCACHE": {"OFF": "leave it out: labels are always placed together"},

@@ -9,16 +9,16 @@ LETTERS, SYMBOL = 8, 4
 
 
 class Sizes:
-    """The factor of a mapfile, its font and its pixmaps, by the tokens that name them."""
+    """The factor of a mapfile, the value that gives it, its font and its pixmaps, by the tokens that name them."""
 
     def __init__(self):
-        self.factor, self.font, self.images = 1, None, []
+        self.factor, self.given, self.font, self.images = 1, None, None, []
 
     def see(self, block, word, values):
         """Takes over what a keyword says of the factor, the font and pixmaps."""
         key = f"{block} {word}"
         if key == "MAP CONFIG" and values[0].text == "WMS_SMOOTHING" and values[1].text in keywords.SMOOTHINGS.split():
-            self.factor = int(values[1].text)
+            self.factor, self.given = int(values[1].text), values[1]
         elif key == "MAP CONFIG" and values[0].text == "LABELFONT":
             self.font = values[1]
         elif key == "SYMBOL IMAGE":

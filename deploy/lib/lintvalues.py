@@ -43,8 +43,7 @@ class Values:
             self.refused(bad, word, "a word or a quoted text")
         elif key in keywords.COUNTED:
             self.check_count(first, word, *keywords.COUNTED[key])
-        elif key in keywords.CHOICES:
-            chosen = keywords.CHOICES[key].split()
+        elif chosen := self.choices(key):
             if first.text.upper() not in chosen:
                 instead = keywords.VALUES.get(key, {}).get(first.text.upper())
                 self.refused(first, word, " or ".join(chosen), instead)

@@ -83,6 +83,55 @@ class Blocks(unittest.TestCase):
         self.assertEqual(lines, ["2: CLASS has one LABEL too many: write a further LAYER of the same features"])
 
 
+class Discs(unittest.TestCase):
+    """A SYMBOL of TYPE ELLIPSE behind CONFIG "WMS_SMOOTHING"."""
+
+    def differing(self, *words, head="CONFIG WMS_SMOOTHING 2", tail=""):
+        """The lines of differences of a map with a SYMBOL of these words, each on a line of its own, from 3 on."""
+        lines = shown("\n".join(["MAP " + head, "SYMBOL", *words, "END", tail, "END"]), True)
+        return [line.split(": ")[0] + ": " + line.split(": ")[1].split(",")[0] for line in lines]
+
+    def test_a_disc_has_no_difference(self):
+        self.assertEqual(self.differing("NAME s", "TYPE ELLIPSE", "POINTS 1 1 END", "FILLED TRUE"), [])
+        self.assertEqual(self.differing("filled 'True'", "Points 1.0 '1' end", "type 'ellipse'", "NAME s", head="CONFIG WMS_SMOOTHING 1 CONFIG WMS_SMOOTHING 4"), [])
+        # the last TYPE counts
+        self.assertEqual(self.differing("NAME s", "TYPE PIXMAP", "TYPE ELLIPSE", "POINTS 1 1 END", "FILLED TRUE", "TRANSPARENT 0"), [])
+
+    def test_without_smoothing_before_it_there_is_none(self):
+        disc = ("NAME s", "TYPE ELLIPSE", "POINTS 1 1 END", "FILLED TRUE", "IMAGE x")
+        lines = ["4: ELLIPSE is no value of TYPE", "5: POINTS is MapServer's and isn't read", "6: FILLED is MapServer's and isn't read"]
+        self.assertEqual(self.differing(*disc, head=""), lines)
+        self.assertEqual(self.differing(*disc, head="", tail="CONFIG WMS_SMOOTHING 2"), lines)
+        self.assertEqual(self.differing(*disc, head="CONFIG WMS_SMOOTHING 2 CONFIG WMS_SMOOTHING 1"), lines)
+        self.assertIn('behind CONFIG "WMS_SMOOTHING" a disc is read', shown("MAP SYMBOL NAME s TYPE ELLIPSE IMAGE x END END")[0])
+
+    def test_points_are_1_and_1(self):
+        for points, line in (("1\n2 END", "5: 2 is no value of POINTS"), ("1\n1\n1 END", "6: 1 is no value of POINTS"), ("\nx END", "5: x is no value of POINTS"),
+                             ("1\nEND", "5: POINTS has too few values"), ("\nEND", "5: POINTS has too few values"), ("\n(1) 1 END", "5: (1) is no value of POINTS"),
+                             ("1\n'END' END", '5: "END" is no value of POINTS')):
+            self.assertEqual(self.differing("NAME s", f"POINTS {points}", "TYPE ELLIPSE", "FILLED TRUE"), [line], points)
+
+    def test_it_is_filled(self):
+        disc = ("NAME s", "TYPE ELLIPSE", "POINTS 1 1 END")
+        self.assertEqual(self.differing(*disc, "FILLED", "FALSE"), ["7: FALSE is no value of FILLED"])
+        self.assertEqual(self.differing(*disc, "FILLED"), ["7: FILLED has too few values", "7: the SYMBOL of line 2 has no FILLED"])
+
+    def test_what_it_must_have(self):
+        self.assertEqual(self.differing("TYPE ELLIPSE"), [f"4: the SYMBOL of line 2 has no {word}" for word in ("NAME", "POINTS", "FILLED")])
+        self.assertEqual(self.differing("NAME s", "TYPE ELLIPSE", "POINTS 1 1 END", "FILLED TRUE", "IMAGE", "x"), ["8: a SYMBOL of TYPE ELLIPSE has an IMAGE"])
+
+    def test_a_pixmap_is_one_as_ever(self):
+        self.assertEqual(self.differing("NAME s", "TYPE PIXMAP", "IMAGE x", "POINTS 1 1 END", "FILLED TRUE"), [])
+        self.assertEqual(self.differing("NAME s", "TYPE PIXMAP", "POINTS 1 1 END", "FILLED TRUE"), ["7: the SYMBOL of line 2 has no IMAGE"])
+        self.assertEqual(self.differing("NAME s", "TYPE VECTOR", "IMAGE x"), ["4: VECTOR is no value of TYPE"])
+
+    def test_the_map_is_smoothed_at_its_end(self):
+        disc = ("NAME s", "TYPE ELLIPSE", "POINTS 1 1 END", "FILLED TRUE")
+        self.assertEqual(self.differing(*disc, tail="CONFIG WMS_SMOOTHING\n1"), ["9: a map with a disc is smoothed"])
+        self.assertEqual(self.differing(*disc, tail="CONFIG WMS_SMOOTHING\n1 CONFIG WMS_SMOOTHING 3"), [])
+        self.assertEqual(self.differing("NAME s", "TYPE PIXMAP", "IMAGE x", "FILLED TRUE", tail="CONFIG WMS_SMOOTHING\n1"), [])
+
+
 class Files(unittest.TestCase):
     def setUp(self):
         folder = tempfile.TemporaryDirectory()
@@ -137,6 +186,13 @@ class Files(unittest.TestCase):
         for source, words in rows:
             lines = self.run_on(self.write("m.map", source))[1]
             self.assertEqual(lines[-1], f"deploy/convert m.map FOLDER{words}", source)
+
+    def test_a_disc_is_read_in_an_included_file_of_a_smoothed_map(self):
+        self.write("symbols", "SYMBOL NAME 's' TYPE ELLIPSE POINTS 1 1 END FILLED TRUE END")
+        lines = self.run_on("--quiet", self.write("m.map", "MAP CONFIG WMS_SMOOTHING 2 INCLUDE 'symbols' END"))[1]
+        self.assertEqual(lines[1], "1 difference")
+        # without it there are the INCLUDE, ELLIPSE, POINTS, FILLED and no IMAGE
+        self.assertIn("5 differences", self.run_on("--quiet", self.write("m.map", "MAP INCLUDE 'symbols' END"))[1])
 
     def test_what_an_included_file_opens_counts(self):
         path = self.write("m.map", "MAP INCLUDE 'web' END")
