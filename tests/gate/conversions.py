@@ -40,6 +40,11 @@ WANTED = {
     "expressions": (["EXPRESSION {oak,ash}", '("[kind]" =* "FIR")', "EXPRESSION {1+2}", 'ITEMS "second;2"'], ["oak tree", "shrub", "1 2 3"]),
     "bound": (['TITLE "route: #1e3250, 3"', "EXPRESSION {1.2} STYLE COLOR 200 90 40 WIDTH 5", 'ITEMS "#1e3250;3;1.1"', 'ITEMS "1.2"', 'TITLE "1: 2"'], ["secret", "turn"]),
     "casings": (["COLOR 130 120 110 WIDTH 3", "COLOR 250 250 250 WIDTH 1", "COLOR 90 80 70 WIDTH 6", "COLOR 240 200 40 WIDTH 4", "COLOR 200 200 200 WIDTH 4", "COLOR 20 20 20 WIDTH 2", "COLOR 30 90 200 WIDTH 5"], ["WIDTH 32"]),
+    "discs": ([
+        'CONFIG "WMS_SMOOTHING" "4"', 'SYMBOL NAME "disc" TYPE ELLIPSE POINTS 1 1 END FILLED TRUE END', 'STYLE SYMBOL "disc" COLOR 200 60 40 OUTLINECOLOR 250 250 240 SIZE 10 WIDTH 2 END',
+        'STYLE SYMBOL "disc" COLOR 20 60 110 SIZE 5 END', 'STYLE SYMBOL "disc" OUTLINECOLOR 30 70 120 SIZE 7 WIDTH 1 END', 'STYLE SYMBOL "disc" COLOR 70 110 160 SIZE 3 END',
+        'STYLE SYMBOL "dot1" END', 'STYLE SYMBOL "egg2" END', 'STYLE SYMBOL "square3" END',
+    ], ["40 80 130", "SIZE 6"]),
     "counted": (['TEXT "well 1"', "2.375 3.5", 'NAME "sights"', 'ITEMS "well"'], ["crowds", 'NAME "dot3"', "class", 'TEXT "1"']),
     "small": (['TEXT "28-029-1710"', 'CONFIG "LABELFONT" "labels.bdf"'], ["LABELITEM"]),
     "mono": (['TEXT "28-029-1710"', 'CONFIG "LABELFONT" "labels.bdf"'], ["LABELITEM"]),
@@ -56,8 +61,9 @@ WANTED = {
     "items": (['TITLE "1" EXPRESSION ([code] = 7)', 'ITEMS "Ada;1"', 'ITEMS "Ben;2"', 'NAME "silent"', 'ITEMS "7"'], ["hunter2", "swordfish", "xyzzy", "plugh", "plover", "5.625", "6.375", "debt", "8.375"]),
 }
 
-# The options of those of which there is no map else.
+# The options of those of which there is no map else, and those that others are converted with.
 OPTIONS = {"limited": ["--shown"], "opened": ["--open"]}
+MORE = {"discs": ["--smoothing", "4"]}
 # Those with labels, for which a font is made.
 LABELLED = {"counted", "fontset", "labels", "small", "mono"}
 
@@ -136,7 +142,7 @@ def try_mapfile(path, name, folder, checks, writes):
     if options := OPTIONS.get(name):
         ran = subprocess.run([CONVERT, path, made], capture_output=True)
         checks.that(ran.returncode == 2 and not made.exists() and options[0].encode() in ran.stderr, f"{name}: there is a map without {options[0]}: {ran.stderr}")
-    ran = subprocess.run([CONVERT, path, made, *OPTIONS.get(name, [])], capture_output=True, text=True, errors="replace")
+    ran = subprocess.run([CONVERT, path, made, *OPTIONS.get(name, MORE.get(name, []))], capture_output=True, text=True, errors="replace")
     if ran.returncode == 2:
         checks.that(False, f"{name}: {ran.stderr}")
         return

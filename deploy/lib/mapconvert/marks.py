@@ -1,13 +1,16 @@
-"""Pixmaps of symbols, drawn by MapServer at their size."""
+"""Pixmaps of symbols, drawn by MapServer at their size, and the discs of a smoothed map."""
 import io
 import os
 
 import mapscript
 from PIL import Image
 
+from mapconvert import discs
 from mapconvert.styles import colour_of
 
 LARGEST = 256
+# The shares of its size that are tried of a mark whose pixmap would be larger.
+SHARES = [twentieths / 20 for twentieths in range(20, 0, -1)]
 NOTHING = (255, 0, 255)
 # A pattern whose mean opacity, of 255, is this is a fill; its edges are smoothed.
 COVERS = 242
@@ -33,11 +36,20 @@ class Marks:
         form = mapscript.outputFormatObj("AGG/PNG", "marks")
         form.imagemode, form.transparent = mapscript.MS_IMAGEMODE_RGBA, mapscript.MS_ON
         self.map.setOutputFormat(form)
-        self.folder, self.names = folder, {}
+        self.folder, self.names, self.has_disc = folder, {}, False
 
-    def draw(self, style, side, is_polygon=False):
-        """The picture of a point in the middle of a square, so many times as large, or of a polygon that covers it."""
-        self.map.resolution = self.resolution * (1 if is_polygon else self.times)
+    def disc(self, style):
+        """The words of the style that paints a circle as a disc; nothing for another mark, and in a map that isn't smoothed."""
+        symbol = self.map.symbolset.getSymbol(style.symbol) if self.times > 1 else None
+        if symbol is None or not (discs.is_circle(symbol) and discs.is_plain(style)):
+            return None
+        words = discs.words_of(style, symbol, self.resolution / self.map.defresolution)
+        self.has_disc = self.has_disc or words is not None
+        return words
+
+    def draw(self, style, side, is_polygon=False, share=1):
+        """The picture of a point in the middle of a square, a share of so many times as large, or of a polygon that covers it."""
+        self.map.resolution = self.resolution * (1 if is_polygon else self.times * share)
         self.map.setSize(side, side)
         self.map.setExtent(-side / 2 + 0.5, -side / 2 + 0.5, side / 2 - 0.5, side / 2 - 0.5)
         layer = mapscript.layerObj(self.map)
@@ -66,11 +78,17 @@ class Marks:
         own = colour_of(style.color) or "%d %d %d" % tuple(colour)
         return (self.mean_colour(style, below or own), None) if below or alpha >= COVERS else (None, own)
 
-    def is_cut(self, style):
-        """Whether a mark is larger than a pixmap may be."""
+    def is_cut(self, style, share=1):
+        """Whether a share of a mark is larger than a pixmap may be."""
         side = LARGEST - 1
-        left, top, right, bottom = self.draw(style, side).getchannel("A").getbbox() or (1, 1, 1, 1)
+        left, top, right, bottom = self.draw(style, side, share=share).getchannel("A").getbbox() or (1, 1, 1, 1)
         return left == 0 or top == 0 or right == side or bottom == side
+
+    def share_of(self, style):
+        """The share of its size that a mark has: in a smoothed map the largest at which its pixmap isn't cut."""
+        if self.times == 1:
+            return 1
+        return next((share for share in SHARES if not self.is_cut(style, share)), SHARES[-1])
 
     def is_translucent(self, style):
         """Whether most of a mark is neither opaque nor clear."""
@@ -79,7 +97,7 @@ class Marks:
 
     def pixmap(self, style):
         """The pixels of a mark round its point, opaque or clear; nothing where it has none."""
-        picture = self.draw(style, LARGEST - 1)
+        picture = self.draw(style, LARGEST - 1, share=self.share_of(style))
         solid = picture.getchannel("A").point(lambda alpha: 255 if alpha >= 128 else 0)
         box, middle = solid.getbbox(), (LARGEST - 1) // 2
         if box is None:
@@ -106,5 +124,8 @@ class Marks:
         return self.names[key]
 
     def lines(self):
+        """The SYMBOL blocks of the map."""
+        if self.has_disc:
+            yield discs.SYMBOL
         for name in self.names.values():
             yield f'  SYMBOL NAME "{name}" TYPE PIXMAP IMAGE "{name}.ppm" END'

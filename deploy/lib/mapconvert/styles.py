@@ -117,16 +117,28 @@ class Styles:
                 self.report.left_out(self.place(number, at), why)
 
     def point(self, number, at, style):
-        """The words of a point's style: its mark as a pixmap."""
+        """The words of a point's style: its mark as a disc, or as a pixmap."""
+        disc = self.marks.disc(style)
+        if disc:
+            self.say_size(number, at, disc)
+            return disc
         symbol = self.marks.name_of(style, style.symbolname)
         if symbol is None:
             return None
         self.report.changed(self.place(number, at, "SYMBOL"), f"the mark is the pixmap {symbol}.ppm, as MapServer draws it")
-        if self.marks.is_cut(style):
-            self.report.left_out(self.place(number, at, "SIZE"), "the mark is cut: its pixmap would have more than 256 pixels a side")
+        share = self.marks.share_of(style)
+        if share < 1 or self.marks.is_cut(style):
+            how = f"{share:.0%} as large as MapServer's".replace("%", " %") if share < 1 else "cut"
+            self.report.left_out(self.place(number, at, "SIZE"), f"the mark is {how}: its pixmap would have more than 256 pixels a side")
         if self.marks.is_translucent(style):
             self.report.left_out(self.place(number, at, "SYMBOL"), "the mark's translucent pixels: they are opaque or clear")
         return [f'SYMBOL "{symbol}"']
+
+    def say_size(self, number, at, disc):
+        """Reports the size of a disc with an outline, which isn't that of the circle."""
+        if disc[-1].startswith("WIDTH"):
+            why = "as the outline lies within a disc, and half of it outside MapServer's circle"
+            self.report.changed(self.place(number, at, "SIZE"), f"{disc[-2].replace(' ', ' is ')}, {why}")
 
     def width(self, number, at, width):
         """A width that the server has."""
