@@ -113,6 +113,44 @@ class Legends(unittest.TestCase):
         # a share of 191 of 255 of 6 7 8, and of 128 of 9 10 11, over 40 50 60
         self.assertEqual([pixels[13, 8], pixels[14, 8]], [(15, 18, 21, 255), (24, 30, 35, 255)])
 
+    def disc(self, *styles, factor=2):
+        """The sides and the pixels of a smoothed map's discs by these styles."""
+        symbol = f"CONFIG WMS_SMOOTHING {factor} SYMBOL NAME 'd' TYPE Ellipse POINTS 1 1 END FILLED TRUE END"
+        made = self.made(symbol, layer("POINT", " ".join(f"STYLE SYMBOL 'd' {style} END" for style in styles)))
+        return pixels_of(made["layers"]["a"][0]["picture"])
+
+    def test_a_disc_lies_round_the_middle(self):
+        # 4 by 4 fine pixels without their corners, round the corner between the pixels 13 and 14, and 8 and 9
+        width, height, pixels = self.disc("COLOR 40 50 60 SIZE 2")
+        self.assertEqual((width, height), (28, 18))
+        self.assertEqual({at: pixel for at, pixel in pixels.items() if pixel[3]}, {(i, j): (40, 50, 60, 191) for i in (13, 14) for j in (8, 9)})
+
+    def test_a_disc_has_a_ring_in_it(self):
+        _, _, pixels = self.disc("COLOR 40 50 60 OUTLINECOLOR 80 100 120 SIZE 4 WIDTH 1")
+        # Of 8 by 8 fine pixels those are the ring whose centres are 2 to 4 off the middle. A pixel beside it has one of them,
+        # at 1.5 and 1.5, and three of the disc; the next ones have four, and of those at the corners one each.
+        inner, side, corner = (50, 63, 75, 255), (80, 100, 120, 255), (80, 100, 120, 64)
+        rows = [[corner, side, side, corner], [side, inner, inner, side], [side, inner, inner, side], [corner, side, side, corner]]
+        self.assertEqual([[pixels[column, row] for column in range(12, 16)] for row in range(7, 11)], rows)
+        self.assertEqual(sum(pixel[3] > 0 for pixel in pixels.values()), 16)
+
+    def test_a_ring_alone_leaves_its_hole(self):
+        _, _, pixels = self.disc("OUTLINECOLOR 80 100 120 SIZE 4")
+        self.assertEqual([pixels[column, 8] for column in (11, 12, 13)], [CLEAR, (80, 100, 120, 255), (80, 100, 120, 64)])
+        self.assertEqual([pixels[column, 8] for column in (12, 13)], [pixels[column, 9] for column in (15, 14)])
+
+    def test_a_large_disc_makes_the_picture_larger(self):
+        width, height, pixels = self.disc("COLOR 40 50 60 SIZE 30", "COLOR 70 80 90 SIZE 2", factor=3)
+        self.assertEqual((width, height, pixels[2, 16], pixels[1, 16]), (34, 34, (40, 50, 60, 255), CLEAR))
+        # In fine pixels a size of 6 has 32 of 6 by 6, 8 of the 9 of each of the four in the middle: 8 and 1 of 9 of the colours.
+        self.assertEqual(pixels[16, 16], (67, 77, 87, 255))
+
+    def test_of_symbols_of_one_name_the_last_counts(self):
+        disc, pixmap = "SYMBOL NAME 's' TYPE ELLIPSE POINTS 1 1 END FILLED TRUE END", "SYMBOL NAME 's' TYPE PIXMAP IMAGE 's.ppm' END"
+        style = layer("POINT", "STYLE SYMBOL 's' COLOR 40 50 60 SIZE 4 END")
+        found = [pixels_of(self.made("CONFIG WMS_SMOOTHING 2", *symbols, style)["layers"]["a"][0]["picture"])[2][13, 8] for symbols in ((disc,), (disc, pixmap))]
+        self.assertEqual(found, [(40, 50, 60, 255), (6, 7, 8, 191)])
+
     def test_a_line_goes_across(self):
         _, _, pixels = self.picture("LINE", "COLOR 40 50 60 WIDTH 4")
         self.assertEqual(self.covered(pixels, (40, 50, 60)), ((0, 27), (7, 10), 112))
