@@ -66,14 +66,6 @@ def pixmap(side, colour_at):
     return b"P6\n%d %d\n255\n" % (side, side) + bytes(part for pixel in pixels for part in pixel)
 
 
-def disc(times, radius, colour, halo):
-    """A disc of a radius in pixels of the map, and a ring of one pixel more round it."""
-    def colour_at(x, y):
-        away = (x * x + y * y) ** 0.5 / times
-        return colour if away <= radius else halo if away <= radius + 1 else None
-    return pixmap(2 * round(times * (radius + 1)), colour_at)
-
-
 def distance_to(x, y, a, b):
     """How far a point is away from a segment."""
     (x0, y0), (x1, y1) = a, b

@@ -35,11 +35,12 @@ class Larger(unittest.TestCase):
     def test_strokes_grow_to_the_right(self):
         self.assertEqual(larger.bolder(rows_of("#..#", ".##.")), rows_of("##.#", ".###"))
 
-    def test_a_disc_has_a_ring(self):
-        head, pixels = larger.disc(2, 1, (10, 20, 30), (40, 50, 60)).split(b"\n255\n", 1)
-        self.assertEqual(head, b"P6\n8 8")
-        upper = ["..oooo..", ".oooooo.", "ooo##ooo", "oo####oo"]
-        self.assertEqual(drawn(pixels, 8, {(255, 0, 255): ".", (10, 20, 30): "#", (40, 50, 60): "o"}), [*upper, *reversed(upper)])
+    def test_a_pixmap_has_the_colours_of_its_places(self):
+        # how far right of the middle and below it the centres of the pixels are
+        ring = lambda x, y: (10, 20, 30) if x * x + y * y == 2.5 else (40, 50, 60) if (x, y) == (-0.5, 0.5) else None
+        head, pixels = larger.pixmap(4, ring).split(b"\n255\n", 1)
+        self.assertEqual(head, b"P6\n4 4")
+        self.assertEqual(drawn(pixels, 4, {(255, 0, 255): ".", (10, 20, 30): "#", (40, 50, 60): "o"}), [".##.", "#..#", "#o.#", ".##."])
 
     def test_a_glyph_is_so_many_times_as_large(self):
         glyph = "STARTCHAR A\nENCODING 65\nDWIDTH 3 0\nBBX 2 2 -1 -5\nBITMAP\n80\n40\nENDCHAR\n"
@@ -51,6 +52,12 @@ class Larger(unittest.TestCase):
 
 
 class Parts(unittest.TestCase):
+    def test_the_map_has_the_discs_that_are_made(self):
+        with open(os.path.join(DEMO, "smooth.map"), encoding="utf-8") as file:
+            text = file.read()
+        for part in (make.symbol("anchor", "anchor4.ppm") + make.DISC, 'TYPE POINT\n    TEMPLATE "t"\n    PROCESSING "ITEMS=name,iso"\n' + make.DISCS):
+            self.assertEqual(text.count(part), 1, part)
+
     def test_what_stands_in_the_folder_is_what_is_made(self):
         with open(os.path.join(DEMO, "6x13.bdf"), encoding="latin-1") as file:
             made = {"24x52.bdf": larger.larger_font(file.read(), 4).encode("latin-1")}
