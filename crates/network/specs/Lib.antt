@@ -1,5 +1,4 @@
 pub mod Accepting
-pub mod Announcing
 pub mod Closing
 pub mod Opening
 pub mod Ports

@@ -1,47 +1,32 @@
 //! What follows on a call for a connection.
 
-ghost use Rattle.std.specs.Prelude.{◌≡◌, ◌+◌, ◌≤◌, ◌^◌, min, nat_le, MatchOption, MatchResult};
+ghost use Rattle.std.specs.Prelude.{◌≡◌};
 
 use crate::port::AcceptFailed;
-use accesslog::EndsEarly;
-use eventloop::{Wakes, WorkerThreads};
-use httpedge::Asks;
-use std::sync::Wait;
-use turns::Transport;
 
 // How many calls for a connection fail one after the other, until the port may be given up.
 const MAX_FAILURES: u32 = 100;
 
-/// A connection has to give way, as a further one lacks a descriptor. It can't be let go: it is obeyed.
-pub struct Press {
+/// That a connection is to be evicted, if one may be, as a further one lacks a descriptor. It can't be let go.
+pub struct Eviction {
     // So many calls have failed one after the other that the port is given up, unless a client is served.
     is_last: bool,
 }
 
-impl Press {
-    /// Of one worker, the next each time, a connection gives way, if one may. Returns whether the port is given up, unless a client is
-    /// served.
-    pub fn obey<R, A, T, P, W>(self, rt: &R, workers: &mut WorkerThreads<A, T, P, W>) -> bool
-    where
-        R: Wait,
-        A: Asks + Drop,
-        T: Transport + EndsEarly + Drop,
-        P: Drop,
-        W: Wakes + Drop,
-        ensures last { result ≡ self.is_last }
-        ensures threads { workers.new.threads ≡ workers.old.threads }
-        ensures count { workers.new.count ≡ workers.old.count }
+impl Eviction {
+    /// After a connection was evicted, if one might be: whether the port is given up, unless a client is served.
+    pub fn after_eviction(self) -> bool
+        ensures { result ≡ self.is_last }
     {
-        let Press { is_last } = self;
-        workers.press(rt);
+        let Eviction { is_last } = self;
         is_last
     }
 
-    /// At the port of administrators no connection gives way. Returns whether the port is given up, unless a client is served.
-    pub fn forgo(self) -> bool
+    /// Where no connection is evicted, as at the port of administrators: whether the port is given up, unless a client is served.
+    pub fn without_eviction(self) -> bool
         ensures { result ≡ self.is_last }
     {
-        let Press { is_last } = self;
+        let Eviction { is_last } = self;
         is_last
     }
 }
@@ -59,8 +44,8 @@ pub enum Plan<C> {
         /// Its number, counted from 1.
         number: u64,
     },
-    /// A connection has to give way.
-    Press(Press),
+    /// A connection is to be evicted.
+    Evict(Eviction),
 }
 
 /// How many connections came, and how many calls for one have failed since.
@@ -100,7 +85,7 @@ impl Acceptor {
             }
             Some(Err(_)) => {
                 self.failures = self.failures.saturating_add(1);
-                Plan::Press(Press {
+                Plan::Evict(Eviction {
                     is_last: self.failures >= MAX_FAILURES,
                 })
             }

@@ -6,18 +6,9 @@ use commandline::Service;
 use eventloop::{Poller, Wakes};
 use mapdefs::Text;
 use std::alloc::Global;
-use std::io::{Eprint, Read};
+use std::io::Read;
 use std::marker::PhantomData;
-use std::rt::Clock;
-use std::sync::Wait;
-use std::thread::Threads;
 use turns::Transport;
-
-/// The runtime of a service: it takes memory, has a clock, writes a log, waits, and starts threads.
-pub trait Runtime: AllocGlobal + Clock + Eprint + Wait + Threads + Send + Copy + Drop + 'static {}
-
-impl<R: AllocGlobal + Clock + Eprint + Wait + Threads + Send + Copy + Drop + 'static> Runtime
-    for R {}
 
 /// A connection whose calls can be made such that none waits.
 pub trait IntoTransport<T> {

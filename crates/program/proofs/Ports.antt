@@ -3,7 +3,7 @@ use Rattle.std.proofs.Common.{◌≡◌, ◌⊎◌, ⊎_elim, inl, inr, refl, su
 use Rattle.console.specs.declared.failure.Failure.{Failure}
 use Rattle.console.specs.declared.failure.ListenCause.{ListenCause}
 use Rattle.console.specs.declared.failure.Failure.TheVariants.{MapfileFault, FileFailed, ArgumentsRefused, InputFailed, OutputFailed, ListenFailed, SocketFailed, WatchFailed, JournalFault, JournalFailed, NoMemory}
-use Rattle.network.specs.Announcing.{is_resource_failure}
+use Rattle.service.specs.Failures.{is_resource_failure}
 use Rattle.subcommands.specs.Mapfiles.{TouchesNeither}
 use Rattle.program.specs.Performing.{NamesPort}
 

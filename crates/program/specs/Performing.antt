@@ -19,7 +19,6 @@ use Rattle.program.specs.declared.host.Files.{Ghosts as Files}
 use Rattle.network.specs.declared.port.Port.{Ghosts as Port}
 use Rattle.program.specs.Journals.{JournalView, HasFailed, KeepsState, compacted_keeper, whole_keeper, checkpoint_of, IsOpened, IsUnopened, ReportsCut, ReportsEnd, failure_of, journal_fault, map_fingerprint}
 use Rattle.program.specs.declared.keeping.JournalFault.{JournalFault}
-use Rattle.network.specs.Announcing.{HasAnnounced, is_resource_failure}
 use Rattle.subcommands.specs.Folder.{Giving, IsParent}
 use Rattle.subcommands.specs.Mapfiles.{HasReadMapfile, GivesNoMap, ReportsWarnings, ChecksTo, RunsTo}
 use Rattle.subcommands.specs.Session.{PlaysTo, opened}
@@ -27,6 +26,8 @@ use Rattle.subcommands.specs.Reports.{ReadFile}
 use Rattle.subcommands.specs.declared.unread.UnreadCause.{UnreadCause}
 use Rattle.program.specs.Endings.{EndingValue, unserved, unstarted, ended, ended_compacted}
 use Rattle.keepers.specs.declared.keeps.Keeps.{Ghosts as Keeper}
+use Rattle.service.specs.Announcing.{HasAnnounced}
+use Rattle.service.specs.Failures.{is_resource_failure}
 use Rattle.service.specs.Serving.{LosesNone, NamesCause, ServedValue, WereServed}
 use Rattle.turns.specs.declared.transport.Transport.{Ghosts as Transport}
 use Rattle.journalfile.specs.declared.checkpoint.CompactedJournal.{CompactedJournal}

@@ -1,13 +1,14 @@
 //! A host as contracts see it.
 
-ghost use Rattle.network.specs.declared.logging.LoggedPoller.{LoggedPoller};
 ghost use Rattle.program.specs.Journals.{journal_view};
 ghost use Rattle.program.specs.Performing.{host_view};
+ghost use Rattle.service.specs.declared.logging.LoggedPoller.{LoggedPoller};
 
 use crate::host::{Files, Host};
 use accesslog::LoggedTransport;
 use journalfile::{Log, LogFailure};
-use network::{Network, Port, Runtime};
+use network::{Network, Port};
+use service::Runtime;
 use turns::Transport;
 
 /// A host, as contracts see it. R is the runtime of the program.

@@ -14,7 +14,8 @@ use crate::program::Program;
 use crate::serving::JournaledService;
 use commandline::{Command, Service};
 use console::{Console, Failure, Terminal, Writes};
-use network::{Network, Runtime};
+use network::Network;
+use service::Runtime;
 use streams::{Sink, Source};
 use subcommands::{Job, NamedFile, ReadMap, check, read_map, run, session};
 

@@ -6,7 +6,7 @@ ghost use Rattle.program.specs.Journals.{IsOpened, IsUnopened, checkpoint_of, ma
 ghost use Rattle.program.specs.Performing.{IsServed, NamesItsPort, NamesPort, ServesCompacted, ServesJournal, ServesMachine, ServesMap, by_compacted, by_journal};
 ghost use Rattle.program.specs.Requests.{begun_by, fingerprinted, requested_with, written_by};
 ghost use Rattle.subcommands.specs.Session.{opened};
-ghost use Rattle.network.specs.Announcing.{is_resource_failure};
+ghost use Rattle.service.specs.Failures.{is_resource_failure};
 ghost use Rattle.subcommands.specs.Mapfiles.{TouchesNeither};
 
 use crate::ending::Ending;
@@ -23,8 +23,8 @@ use journalfile::{Checkpoint, CompactedJournal, Journal, Log, LogFailure};
 use keepers::Keeps;
 use mapdefs::Map;
 use mapmachine::Machine;
-use network::{Network, PortFor, Ports, Runtime, Until};
-use service::{Kept, Served, serve_by_threads};
+use network::{Network, PortFor, Ports, Until};
+use service::{Kept, Runtime, Served, serve_by_threads};
 use std::alloc::Global;
 use streams::Sink;
 use subcommands::ReadMap;

@@ -4,9 +4,9 @@ use Rattle.std.specs.Prelude.{MatchOption}
 use Rattle.network.specs.Accepting.{Follows}
 use Rattle.network.specs.Ports.{PortEvent, Failed, Opened, HasAccepted, HasCalled, count_opened}
 use Rattle.network.specs.declared.acceptor.Acceptor.{Acceptor}
+use Rattle.network.specs.declared.acceptor.Eviction.{Eviction}
 use Rattle.network.specs.declared.acceptor.Plan.{Plan}
 use Rattle.network.specs.declared.acceptor.Plan.TheVariants as plan
-use Rattle.network.specs.declared.acceptor.Press.{Press}
 use Rattle.network.specs.declared.port.AcceptFailed.{AcceptFailed}
 use Rattle.network.proofs.Noting.{none-accepted, one-more}
 use Rattle.service.specs.Serving.{AreHandedOver, capped}
@@ -45,12 +45,12 @@ module _ {C : Type 0} (old new : Acceptor) (count : ℕ) where
   ends-came (Some (Ok (Some other))) next is same = absurd (cc (is.0, same))
   ends-came (Some (Err failed)) next is same = refl
 
-  -- and one to press
-  pub failed-came : (called : Option (Result (Option C) AcceptFailed)) (next : Plan C) (press : Press) → Follows old called next new → next ≡ plan.Press press → NextCount called count count
-  failed-came None next press is same = refl
-  failed-came (Some (Ok None)) next press is same = refl
-  failed-came (Some (Ok (Some other))) next press is same = absurd (cc (is.0, same))
-  failed-came (Some (Err failed)) next press is same = refl
+  -- and one to evict
+  pub failed-came : (called : Option (Result (Option C) AcceptFailed)) (next : Plan C) (eviction : Eviction) → Follows old called next new → next ≡ plan.Evict eviction → NextCount called count count
+  failed-came None next eviction is same = refl
+  failed-came (Some (Ok None)) next eviction is same = refl
+  failed-came (Some (Ok (Some other))) next eviction is same = absurd (cc (is.0, same))
+  failed-came (Some (Err failed)) next eviction is same = refl
 
 module _ {Q C F : Type 0} (first old new : Q) (log : Q → Option (List PortEvent)) (left : Q → Option ℕ) (before count : ℕ) where
   -- one more call was made, if it was

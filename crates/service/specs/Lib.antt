@@ -1,2 +1,4 @@
 pub mod Administering
+pub mod Announcing
+pub mod Failures
 pub mod Serving

@@ -8,12 +8,13 @@ ghost use Rattle.network.specs.Opening.{IsServedOne};
 
 use crate::clients::queue_of;
 use crate::flags::{Flag, Left, Over};
+use crate::runtime::Runtime;
 use accesslog::{LogQueue, LoggedSink};
 use administration::{AdministerFault, Client, administer_kept};
 use httpedge::EdgeFault;
 use keepers::{Keeps, LogCause};
 use mapshare::{Admin, KeepFailed, Sharing};
-use network::{Accepting, Acceptor, Administrators, Opens, Plan, Port, PortFor, Runtime, Sides};
+use network::{Accepting, Acceptor, Administrators, Opens, Plan, Port, PortFor, Sides};
 use std::alloc::Global;
 use std::sync::Arc;
 use streams::{Sink, Source};
@@ -139,8 +140,8 @@ impl<P, R: Runtime> Administering<P, R> {
                 number,
                 log: queue_of(&self.log),
             }),
-            Plan::Press(press) => {
-                if press.forgo() && self.is_left.is_set() {
+            Plan::Evict(eviction) => {
+                if eviction.without_eviction() && self.is_left.is_set() {
                     Came::End
                 } else {
                     Came::Nothing

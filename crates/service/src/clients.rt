@@ -1,13 +1,15 @@
-ghost use Rattle.std.specs.Prelude.{◌≡◌, ◌+◌, List, IfErr, IfOk, IsErr, IsSome, MatchOption, OnOk, length, true};
+ghost use Rattle.std.specs.Prelude.{◌≡◌, ◌+◌, ◌/◌, List, IfErr, IfOk, IsErr, IsSome, MatchOption, OnOk, length, max, true};
 ghost use Rattle.eventloop.specs.Working.{BeganWith};
 ghost use Rattle.network.specs.Ports.{HasAccepted, HasCalled, PortEvent};
-ghost use Rattle.network.specs.Announcing.{is_resource_failure};
-ghost use Rattle.network.specs.declared.logging.LoggedPoller.{LoggedPoller};
 ghost use Rattle.network.specs.Times.{IsTimed};
+ghost use Rattle.service.specs.Failures.{is_resource_failure};
 ghost use Rattle.service.specs.Serving.{AreHandedOver, WereServed};
+ghost use Rattle.service.specs.declared.logging.LoggedPoller.{LoggedPoller};
 ghost use Rattle.turns.specs.declared.times.Timeouts.{Timeouts as Times};
 
 use crate::flags::{Flag, IsSet, Left, Over, Stopped};
+use crate::logging::LoggedPoller;
+use crate::runtime::Runtime;
 use crate::started::Starting;
 use accesslog::{EndsEarly, LogQueue, LoggedTransport};
 use commandline::Service;
@@ -16,8 +18,8 @@ use eventloop::{Capacity, Ending, Poller, Wakes, Worker, WorkerThreads, start_wo
 use httpedge::Asks;
 use mapshare::{Reader, Sharing};
 use network::{
-    AcceptFailed, Accepting, Acceptor, Clients, FULL_MILLISECONDS, IntoTransport, LoggedPoller,
-    Plan, Port, PortFor, Runtime, slots_of, timeouts_of,
+    AcceptFailed, Accepting, Acceptor, Clients, Eviction, FULL_MILLISECONDS, IntoTransport, Plan,
+    Port, PortFor, slots_of, timeouts_of,
 };
 use std::marker::PhantomData;
 use std::thread::{self, Promise};
@@ -123,8 +125,24 @@ where
     None
 }
 
+// Of one worker, the next each time, evicts a connection, if one may be. Returns whether the port is given up, unless a client is served.
+fn evict<A, T, Q, W, R>(rt: &R, workers: &mut WorkerThreads<A, T, Q, W>, eviction: Eviction) -> bool
+where
+    A: Asks + Drop,
+    R: Runtime,
+    T: Transport + EndsEarly + Drop,
+    Q: Drop,
+    W: Wakes + Drop,
+    ensures last { result ≡ eviction.is_last }
+    ensures threads { workers.new.threads ≡ workers.old.threads }
+    ensures count { workers.new.count ≡ workers.old.count }
+{
+    workers.press(rt);
+    eviction.after_eviction()
+}
+
 // Hands over the connections of clients to their workers, up to the last that is requested, or until the thread has to stop. Where a call for one
-// fails, one that isn't being answered gives way to it. The port is given up where 100 calls fail one after the other and no client is served. While
+// fails, one that isn't being answered is evicted for it. The port is given up where 100 calls fail one after the other and no client is served. While
 // many wait for their workers, none is accepted.
 fn accept_all<S, R, C, T, P, Q, W>(
     rt: &R,
@@ -159,8 +177,8 @@ where
                 let transport = transport_of::<R, T, C>(rt, connection, number, watched.log);
                 workers.hand_over(rt, transport);
             }
-            Plan::Press(press) => {
-                if press.obey(rt, workers) && !workers.is_serving(rt) {
+            Plan::Evict(eviction) => {
+                if evict(rt, workers, eviction) && !workers.is_serving(rt) {
                     return Err(Failure::SocketFailed);
                 }
             }
@@ -182,6 +200,17 @@ pub(crate) struct ClientSide<P, Q, R> {
     pub log: Option<LogQueue<R>>,
 }
 
+// What each worker of a service has: its part of the connections, and how long these may take.
+fn capacity_of(service: Service) -> Capacity
+    ensures slots { result.slots ≡ 1024 / max service.workers 1 }
+    ensures timed { IsTimed service result.timeouts }
+{
+    Capacity {
+        slots: slots_of(service),
+        timeouts: timeouts_of(service),
+    }
+}
+
 // Starts a worker for each reader. Where one can't be started, those that were end.
 fn start_workers<S, R, T, Q>(
     rt: &R,
@@ -201,10 +230,7 @@ where
     if seats.readers.len() != usize::from(service.workers) {
         return Err(Failure::SocketFailed);
     }
-    let capacity = Capacity {
-        slots: slots_of(service),
-        timeouts: timeouts_of(service),
-    };
+    let capacity = capacity_of(service);
     let Ok(mut workers) = WorkerThreads::<
         Reader<S>,
         LoggedTransport<T, R>,
@@ -292,10 +318,7 @@ where
     } = side;
     let started = start_workers::<S, R, T, Q>(rt, Seats { readers, pollers }, service);
     flags.starting.tell(rt, started.is_ok());
-    let mut workers = match started {
-        Ok(workers) => workers,
-        Err(failure) => return Err(failure),
-    };
+    let mut workers = started?;
     let watched = Watched {
         is_stopped: flags.is_stopped,
         log: &log,

@@ -1,13 +1,14 @@
 //! The signals between the threads of a service: that no more clients are served, and that the input ended.
 
 ghost use Rattle.std.specs.Prelude.{◌≡◌, IfErr, IfOk, true};
-ghost use Rattle.network.specs.Announcing.{is_resource_failure};
+ghost use Rattle.service.specs.Failures.{is_resource_failure};
 
 use crate::flags::{Flag, IsSet, Left, Over, Stopped, Unread};
+use crate::runtime::Runtime;
 use crate::started::Starting;
 use console::Failure;
 use eventloop::Wakes;
-use network::{Runtime, Until};
+use network::Until;
 use std::alloc::{AllocError, Global};
 use std::io::{ErrorKind, Read};
 use std::sync::Arc;

@@ -1,23 +1,23 @@
 //! The threads of a service: that of clients and that of the input with whose end it ends.
 
 ghost use Rattle.std.specs.Prelude.{◌≡◌, IfErr, IfOk, IsErr, IsSome, true};
-ghost use Rattle.network.specs.Announcing.{is_resource_failure};
-ghost use Rattle.network.specs.declared.logging.LoggedPoller.{LoggedPoller};
 ghost use Rattle.network.specs.Ports.{requested};
+ghost use Rattle.service.specs.Failures.{is_resource_failure};
 ghost use Rattle.service.specs.Serving.{WereServed};
+ghost use Rattle.service.specs.declared.logging.LoggedPoller.{LoggedPoller};
 
 use crate::administering::Administering;
 use crate::clients::{ClientFlags, ClientSide, ClientsEnd, ServesClients, serve_clients};
 use crate::flags::{Flag, Stopped, Unread};
+use crate::logging::Logs;
+use crate::runtime::Runtime;
 use crate::signals::{ClientSignals, StopSignal, Wakers, signals_of};
 use crate::started::Starting;
 use accesslog::{LogQueue, LoggedTransport};
 use console::Failure;
 use eventloop::{Poller, Wakes};
 use mapshare::{Reader, Sharing};
-use network::{
-    Accepting, Administrators, IntoTransport, Logs, Network, Port, PortFor, Ports, Runtime,
-};
+use network::{Accepting, Administrators, IntoTransport, Network, Port, PortFor, Ports};
 use std::alloc::Global;
 use std::marker::PhantomData;
 use std::sync::Arc;

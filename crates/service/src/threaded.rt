@@ -4,11 +4,14 @@ ghost use Rattle.std.specs.Prelude.{◌≡◌, ◌++◌, ℕ, List, IsErr, IsSom
 ghost use Rattle.batches.specs.Batch.{accepted};
 ghost use Rattle.sharing.specs.Sharing.{after};
 ghost use Rattle.administration.specs.Keeping.{IsKeptSince, NoneLost};
-ghost use Rattle.network.specs.Announcing.{HasAnnounced, GoesOnAfter};
-ghost use Rattle.network.specs.declared.logging.LoggedPoller.{LoggedPoller};
+ghost use Rattle.service.specs.Announcing.{HasAnnounced, GoesOnAfter};
 ghost use Rattle.service.specs.Serving.{IsServiceOf, LosesNone, NamesCause, WereServed};
+ghost use Rattle.service.specs.declared.logging.LoggedPoller.{LoggedPoller};
 
 use crate::administering::administer_all;
+use crate::announcing::Addresses;
+use crate::logging::{Logs, start_log};
+use crate::runtime::Runtime;
 use crate::served::{Served, ServiceEnd};
 use crate::starting::{Started, start_sides};
 use accesslog::LoggedTransport;
@@ -17,7 +20,7 @@ use history::Blank;
 use keepers::Keeps;
 use mapmachine::Machine;
 use mapshare::{Admin, KeepFailed, Reader, ShareFault, Sharing, open};
-use network::{Addresses, Logs, Network, Ports, Runtime, start_log};
+use network::{Network, Ports};
 use std::marker::Brand;
 use streams::Sink;
 use turns::Transport;
@@ -94,6 +97,22 @@ struct Opened<S: Sharing, K, R, N: Network> {
 }
 
 impl<S: Sharing, K, R: Drop, N: Network> Opened<S, K, R, N> {
+    // A shared map at these ports, without a log.
+    fn unlogged(
+        admin: Admin<S, K>,
+        readers: Vec<Reader<S>>,
+        ports: Ports<N::Port, N::Waker, N::Poller, N::Input>,
+    ) -> Self
+        ensures { (result.admin ≡ admin) × (result.ports ≡ ports) }
+    {
+        Opened {
+            admin,
+            readers,
+            ports,
+            logs: Logs::none(),
+        }
+    }
+
     // The same map with these logs.
     fn logged(self, logs: Logs<R>) -> Self
         ensures { (result.admin ≡ self.admin) × (result.ports ≡ self.ports) }
@@ -257,12 +276,7 @@ where
         Ok((admin, readers)) => {
             // Its features would stay in memory when a batch has emptied their layer.
             drop(machine);
-            let opened = Opened {
-                admin,
-                readers,
-                ports,
-                logs: Logs::none(),
-            };
+            let opened = Opened::<S, K, R, N>::unlogged(admin, readers, ports);
             let (admin, end) = serve_logged::<S, R, N, K, O>(rt, opened, &mut keeper, output);
             let served = served.ended(end, &keeper, &admin);
             admin.close(rt);

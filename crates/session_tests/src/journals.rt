@@ -2,7 +2,7 @@
 
 use crate::hosts::{arguments_of, run_program};
 use crate::texts::{columns, spelt};
-use network::Runtime;
+use service::Runtime;
 use std::alloc::AllocError;
 use std::sync::atomic::Ordering;
 use test_tables::{TableFault, check_all};

@@ -4,7 +4,7 @@ use crate::hosts::{arguments_of, run_on};
 use crate::shelf::{Shelf, no_counts};
 use crate::taped_host::TapedHost;
 use crate::texts::columns;
-use network::Runtime;
+use service::Runtime;
 use std::alloc::{AllocError, Global};
 use std::sync::Arc;
 use std::sync::atomic::Ordering;

@@ -38,14 +38,14 @@ loop-preserved-in-HandOver g c = record {
 pub returns-then-not-is_serving-clause-accepted : goal.returns-then-not-is_serving-clause-accepted
 returns-then-not-is_serving-clause-accepted g c =
     all-handed _ _ _ _ _ _
-    (next-handed c.args.port.now c.loop.port c.accept_next-accepted.new.port (λ p. g.P.Port.log p.port.port) (λ p. p.remaining) c.args.workers.now.count c.loop.workers.count c.accept_next-accepted.result c.obey.new.workers.count c.loop.invariant.handed c.accept_next-accepted.ensures
-    (subst (NextCount c.accept_next-accepted.result c.loop.workers.count) (sym c.obey.ensures.count)
-    (failed-came c.loop.acceptor c.follow.new.self c.loop.workers.count c.accept_next-accepted.result c.follow.result c.in-Press.press c.follow.ensures c.in-Press.is)))
+    (next-handed c.args.port.now c.loop.port c.accept_next-accepted.new.port (λ p. g.P.Port.log p.port.port) (λ p. p.remaining) c.args.workers.now.count c.loop.workers.count c.accept_next-accepted.result c.evict.new.workers.count c.loop.invariant.handed c.accept_next-accepted.ensures
+    (subst (NextCount c.accept_next-accepted.result c.loop.workers.count) (sym c.evict.ensures.count)
+    (failed-came c.loop.acceptor c.follow.new.self c.loop.workers.count c.accept_next-accepted.result c.follow.result c.in-Evict.eviction c.follow.ensures c.in-Evict.is)))
 
 pub loop-preserved : goal.loop-preserved
 loop-preserved g c = record {
-  handed = next-handed c.args.port.now c.loop.port c.accept_next-accepted.new.port (λ p. g.P.Port.log p.port.port) (λ p. p.remaining) c.args.workers.now.count c.loop.workers.count c.accept_next-accepted.result c.obey.new.workers.count c.loop.invariant.handed c.accept_next-accepted.ensures
-      (subst (NextCount c.accept_next-accepted.result c.loop.workers.count) (sym c.obey.ensures.count)
-      (failed-came c.loop.acceptor c.follow.new.self c.loop.workers.count c.accept_next-accepted.result c.follow.result c.in-Press.press c.follow.ensures c.in-Press.is));
+  handed = next-handed c.args.port.now c.loop.port c.accept_next-accepted.new.port (λ p. g.P.Port.log p.port.port) (λ p. p.remaining) c.args.workers.now.count c.loop.workers.count c.accept_next-accepted.result c.evict.new.workers.count c.loop.invariant.handed c.accept_next-accepted.ensures
+      (subst (NextCount c.accept_next-accepted.result c.loop.workers.count) (sym c.evict.ensures.count)
+      (failed-came c.loop.acceptor c.follow.new.self c.loop.workers.count c.accept_next-accepted.result c.follow.result c.in-Evict.eviction c.follow.ensures c.in-Evict.is));
   threads = search rules;
 }

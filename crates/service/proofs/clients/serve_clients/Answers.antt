@@ -4,8 +4,8 @@ use Rattle.service.proofs.clients.serve_clients.Goals as goal
 
 pub returns-in-Some-clause-clients : goal.returns-in-Some-clause-clients
 returns-in-Some-clause-clients g c =
-    let began = rw c.in-Ok.is at c.start_workers-started.ensures.began in
-    let started : length c.in-Ok.workers.threads.items ≡ c.args.side.service.workers = rw c.in-Ok.is at c.start_workers-started.ensures.all in
+    let began = rw c.in_ok-workers.was at c.start_workers-started.ensures.began in
+    let started : length c.in_ok-workers.workers.threads.items ≡ c.args.side.service.workers = rw c.in_ok-workers.was at c.start_workers-started.ensures.all in
     record {
       workers = Some c.in-Some._workers.items;
       well = λ fine. refl;

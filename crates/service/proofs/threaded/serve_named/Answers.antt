@@ -6,7 +6,7 @@ use Rattle.service.proofs.threaded.serve_named.Goals as goal
 pub returns-in-Ok-clause-kept : goal.returns-in-Ok-clause-kept
 returns-in-Ok-clause-kept g c batches was other =
     let (more, all, is) = c.serve_logged-admin.ensures.kept batches was (λ e. other (rw c.ended-served.ensures.ended e)) in
-    let same = all ∙ ap (λ (b : Batches). all_of b ++ more) c.in-Ok.ensures.admin in
+    let same = all ∙ ap (λ (b : Batches). all_of b ++ more) (c.unlogged-opened.ensures.0 ∙ c.in-Ok.ensures.admin) in
     rw c.ended-served.ensures.ended (subst (λ (l : List (List ℕ)). g.K.Keeps.keeps c.serve_logged-admin.new.keeper (batches ++ l)) (sym same) is)
 
 pub returns-in-Ok-clause-accepted : goal.returns-in-Ok-clause-accepted
@@ -15,7 +15,7 @@ returns-in-Ok-clause-accepted g c = rw c.ended-served.ensures.ended c.ended-serv
 pub returns-in-Ok-clause-crash : goal.returns-in-Ok-clause-crash
 returns-in-Ok-clause-crash g c =
     rw c.ended-served.ensures.ended
-    (loses-none g.K.Keeps g.S.Sharing.opening c.args.map.kept.keeper c.serve_logged-admin.new.keeper _ (rw c.in-Ok.ensures.admin at c.serve_logged-admin.ensures.crash))
+    (loses-none g.K.Keeps g.S.Sharing.opening c.args.map.kept.keeper c.serve_logged-admin.new.keeper _ (rw (c.unlogged-opened.ensures.0, c.in-Ok.ensures.admin) at c.serve_logged-admin.ensures.crash))
 
 pub returns-in-Err-Count-clause-kept : goal.returns-in-Err-Count-clause-kept
 returns-in-Err-Count-clause-kept g c batches was other = rw (c.unshared.ensures, c.begin-served.ensures, append-nil batches) was
@@ -25,3 +25,7 @@ returns-in-Err-Count-clause-accepted g c = rw (c.unshared.ensures, c.begin-serve
 
 pub returns-in-Err-Count-clause-crash : goal.returns-in-Err-Count-clause-crash
 returns-in-Err-Count-clause-crash g c = rw (c.unshared.ensures, c.begin-served.ensures) (still-there g.K.Keeps g.S.Sharing.opening c.args.map.kept.keeper g.met.K.Keeps.stays)
+
+pub returns-in-Ok-clause-clients : goal.returns-in-Ok-clause-clients
+returns-in-Ok-clause-clients g c =
+    rw c.ended-served.ensures.ended (rw c.unlogged-opened.ensures.1 at c.serve_logged-admin.ensures.clients)

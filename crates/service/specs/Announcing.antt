@@ -1,25 +1,7 @@
 -- How a service announces its ports, and goes on after that (docs/SERVICE.md, "The program").
-use Rattle.std.specs.Prelude.{◌≡◌, ◌⊎◌, ◌++◌, ℕ, Bool, true, false, List, Option, IfSome, Ok, Err, MatchResult, codes}
+use Rattle.std.specs.Prelude.{◌≡◌, ◌⊎◌, ◌++◌, ℕ, true, List, Option, IfSome, Ok, Err, MatchResult, codes}
 use Rattle.console.specs.Console.{Outcome, WriterState, IsWritten}
-use Rattle.console.specs.declared.failure.Failure.{Failure}
-use Rattle.console.specs.declared.failure.Failure.TheVariants.{SocketFailed, WatchFailed, JournalFailed, NoMemory}
-
--- what a service lacks that doesn't begin: a port gives no address or no connections, a thread can't be started, or memory was refused
-abbrev pub is_resource_failure : Failure → Bool
-is_resource_failure SocketFailed = true
-is_resource_failure NoMemory = true
-is_resource_failure failure = false
-
--- why a service ended early that had begun: it lacks one of these, or the input with whose end it ends, or the keeper of batches failed
-abbrev pub is_service_failure : Failure → Bool
-is_service_failure WatchFailed = true
-is_service_failure JournalFailed = true
-is_service_failure failure = is_resource_failure failure
-
--- an outcome is that something is lacking
-abbrev pub lacks_resources : Outcome → Bool
-lacks_resources (Ok done) = false
-lacks_resources (Err failure) = is_resource_failure failure
+use Rattle.service.specs.Failures.{is_service_failure, lacks_resources}
 
 -- the line with the addresses of the ports of a service, that of clients first
 abbrev pub addresses_line : List ℕ → List ℕ → List ℕ

@@ -1,11 +1,11 @@
 ghost use Rattle.std.specs.Prelude.{◌≡◌, IfErr, IfOk, IfSome, true};
 ghost use Rattle.console.specs.Console.{IsWritten};
-ghost use Rattle.network.specs.Announcing.{AreAddresses, addresses_line, is_resource_failure};
+ghost use Rattle.service.specs.Announcing.{AreAddresses, addresses_line};
+ghost use Rattle.service.specs.Failures.{is_resource_failure};
 
-use crate::port::{AddressFault, Port};
-use crate::ports::Ports;
 use console::{Failure, Writes, finish};
 use mapdefs::Text;
+use network::{AddressFault, Port, Ports};
 use std::alloc::Global;
 use streams::Sink;
 
@@ -23,7 +23,7 @@ fn address_of<C, P: Port<C>>(alloc: Global, port: &P) -> Result<Text, Failure>
 
 /// The addresses of the two ports of a service.
 #[derive(Drop)]
-pub struct Addresses {
+pub(crate) struct Addresses {
     /// That of the port of clients.
     pub clients: Text,
     /// That of the port of administrators.

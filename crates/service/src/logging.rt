@@ -1,9 +1,9 @@
 //! The log of a service: the thread that writes it, and the poller of connections that are logged.
 
-ghost use Rattle.std.specs.Prelude.{◌≡◌, ◌≤◌, IfErr, length, true};
-ghost use Rattle.network.specs.Announcing.{is_resource_failure};
+ghost use Rattle.std.specs.Prelude.{◌≡◌, IfErr, true};
+ghost use Rattle.service.specs.Failures.{is_resource_failure};
 
-use crate::ports::Runtime;
+use crate::runtime::Runtime;
 use accesslog::{LogQueue, LoggedTransport};
 use console::Failure;
 use eventloop::Poller;
@@ -81,7 +81,7 @@ fn flag_of(
 
 /// A log, and the thread that writes it.
 #[derive(Drop)]
-pub struct Log<R> {
+pub(crate) struct Log<R> {
     queue: LogQueue<R>,
     thread: JoinHandle<()>,
     // The thread has written all lines.
@@ -145,7 +145,7 @@ impl<R: Runtime> Log<R> {
 
 /// The logs of clients and of administrators, each if there is one.
 #[derive(Drop)]
-pub struct Logs<R> {
+pub(crate) struct Logs<R> {
     /// That of clients.
     pub clients: Option<LogQueue<R>>,
     /// That of administrators.
@@ -163,7 +163,7 @@ impl<R> Logs<R> {
 }
 
 /// Starts a log for both.
-pub fn start_log<R: Runtime>(rt: &R) -> Result<(Log<R>, Logs<R>), Failure>
+pub(crate) fn start_log<R: Runtime>(rt: &R) -> Result<(Log<R>, Logs<R>), Failure>
     ensures failed { IfErr result (λ failure. is_resource_failure failure ≡ true) }
 {
     let log = Log::start(rt)?;
