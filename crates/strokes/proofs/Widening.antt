@@ -1,20 +1,12 @@
 -- The columns that a round segment covers, by some of them and those beside it.
-use Rattle.std.proofs.Common.{◌≡◌, ◌∙◌, ℕ, ◌+◌, ◌-◌, ◌*◌, ◌^◌, ◌<◌, ◌≤◌, Bool, true, false, ◌||◌, ◌⊎◌, inl, inr, refl, sym, ap, arith, ⊎_elim}
+use Rattle.std.proofs.Common.{◌≡◌, ◌∙◌, ℕ, ◌+◌, ◌-◌, ◌<◌, ◌≤◌, Bool, true, false, ◌||◌, ◌⊎◌, inl, inr, refl, sym, ap, arith, ⊎_elim}
 use Rattle.std.proofs.lemmas.Bool.{cases_lt, false≢true, or_left, or_right}
-use Rattle.std.proofs.lemmas.Int.{ints}
-use lib.IntN.{ℤ, pos, ◌-ℤ◌, ◌*ℤ◌}
-use Rattle.geom.specs.Device.{centre, pixel_centre}
-use Rattle.geom.specs.Edge.{EdgeEnds}
-use Rattle.geom.specs.Range.{IsBelow}
 use Rattle.geom.proofs.Products.{same_test}
-use Rattle.scanfill.proofs.Words.{product-below}
 use Rattle.scanfill.specs.declared.span.Span.{Span}
 use Rattle.scanfill.specs.Runs.{has_column}
-use Rattle.strokes.specs.Chord.{IsSmallEdge, is_beside}
-use Rattle.strokes.specs.Round.{aside, covers_round, is_about, is_round, joined}
+use Rattle.strokes.specs.Round.{joined}
 use Rattle.strokes.proofs.Marking.{no-column}
-use Rattle.strokes.proofs.RoundBox.{fails, not-across}
-use Rattle.strokes.proofs.Rounded.{PassesBetween, covers-parts, has-from, has-parts, joined-first, joined-pass, joined-second}
+use Rattle.strokes.proofs.Rounded.{PassesBetween, has-from, has-parts, joined-first, joined-pass, joined-second}
 
 -- the columns that one of two tests passes, or a third one
 abbrev pub AreParts : (ℕ → Bool) → (ℕ → Bool) → (ℕ → Bool) → (ℕ → Bool) → Type 0
@@ -131,24 +123,3 @@ none-covered test f g h discs end parts none all beside i less = parts i ∙ go 
     go : (t : Bool) → (f i || g i) ≡ t → ((f i || g i) || h i) ≡ false
     go true p = absurd (false≢true (sym (no-column discs i none) ∙ all i less p))
     go false p = ap (λ t. t || h i) p ∙ beside i less
-
--- how far aside of a small edge a pixel of the picture lies
-pub aside-small : (e : EdgeEnds) (i j : ℕ) → IsSmallEdge e → i < 2048 → j < 2048 → IsBelow (2 ^ 51) (aside e (pixel_centre (pos i) (pos j)))
-aside-small e i j is column row =
-    let one = product-below (2 ^ 25) (2 ^ 25) (centre (pos j) -ℤ e.from.y) (e.to.x -ℤ e.from.x)
-    (record { above = omega (arith, ints, is.from_down); below = omega (arith, ints, is.from_down, row) })
-    (record { above = omega (arith, ints, is.from_across, is.to_across); below = omega (arith, ints, is.from_across, is.to_across) }) in
-    let two = product-below (2 ^ 25) (2 ^ 25) (centre (pos i) -ℤ e.from.x) (e.to.y -ℤ e.from.y)
-    (record { above = omega (arith, ints, is.from_across); below = omega (arith, ints, is.from_across, column) })
-    (record { above = omega (arith, ints, is.from_down, is.to_down); below = omega (arith, ints, is.from_down, is.to_down) }) in
-    less ((centre (pos j) -ℤ e.from.y) *ℤ (e.to.x -ℤ e.from.x)) ((centre (pos i) -ℤ e.from.x) *ℤ (e.to.y -ℤ e.from.y)) one two
-  where
-    less : (a b : ℤ) → IsBelow (2 ^ 25 * 2 ^ 25) a → IsBelow (2 ^ 25 * 2 ^ 25) b → IsBelow (2 ^ 51) (a -ℤ b)
-    less a b p q = record { above = omega (arith, ints, p, q); below = omega (arith, ints, p, q) }
-
--- what lies beside a segment is covered, so nothing outside of the box of its ends does
-pub beside-none : (w : ℕ) (e : EdgeEnds) (row i : ℕ) → is_about w e.from.x e.to.x (centre (pos i)) ≡ false → is_beside w e row i ≡ false
-beside-none w e row i none =
-    let p = pixel_centre (pos i) (pos row) in
-    fails (is_beside w e row i) (covers_round w e p) (λ h. covers-parts w e p ∙ or_right (is_round w e.from p || is_round w e.to p) (is_beside w e row i) h)
-    (not-across w e (centre (pos i)) (centre (pos row)) none)

@@ -41,6 +41,7 @@ mod round_columns;
 mod round_line;
 mod round_step;
 mod segment;
+mod small_distance;
 mod square;
 mod steps;
 mod strip;

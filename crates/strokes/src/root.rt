@@ -5,13 +5,16 @@ ghost use Rattle.strokes.specs.Round.{IsRoot, square, square_of_half};
 
 use crate::number::product;
 
-/// The square root, rounded down.
+/// The square root, rounded down. Of a small number it is found in words of 32 bits, since tables have many of these.
 pub fn root(n: i128) -> i64
     requires least { pos 0 ≤ℤ n }
     requires range { IsBelow (2 ^ 120) n }
     ensures root { IsRoot n result }
     ensures range { IsBelow (2 ^ 61) result }
 {
+    if n < 134_217_728 {
+        return short_root(n);
+    }
     n.unsigned_abs().isqrt() as i64
 }
 

@@ -63,7 +63,7 @@ impl RoundSegment {
     }
 
     // The columns of a row whose centres lie beside it.
-    fn beside_columns(&self, row: u16, end: u16) -> Span
+    pub(crate) fn beside_columns(&self, row: u16, end: u16) -> Span
         requires { row < MAX_PICTURE_SIDE }
         ensures all { (i : ℕ) → i < end → has_column result i ≡
             (is_abreast self.now.edge (pixel_centre (pos i) (pos row)) && is_close self.now.width self.now.edge (pixel_centre (pos i) (pos row))) }

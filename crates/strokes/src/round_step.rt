@@ -4,17 +4,24 @@ ghost use Rattle.geom.specs.Edge.{EdgeEnds};
 ghost use Rattle.geom.specs.Range.{IsBelow};
 ghost use Rattle.geom.specs.declared.side.TheConstants.{MAX_PICTURE_SIDE};
 ghost use Rattle.scanfill.specs.Runs.{has_column};
-ghost use Rattle.strokes.specs.Chord.{is_beside};
+ghost use Rattle.strokes.specs.Chord.{IsSmallEdge, is_beside};
 ghost use Rattle.strokes.specs.Round.{covers_round, is_abreast, square};
 ghost use Rattle.strokes.specs.Strip.{is_small_point};
 
 use crate::chords::Chords;
-use crate::distance::{along, apart, aside};
+use crate::distance::apart;
 use crate::root::{limit, square_of_half};
+use crate::round::RoundSegment;
 use crate::round_columns::{centres_about, joined};
-use geom::Device;
+use crate::small_distance::{centre_along, centre_aside, square_length};
+use crate::strip::{apart as difference, product};
+use clip::clamped;
+use geom::{Device, MAX_PICTURE_SIDE, row_centre};
 use scanfill::Span;
 use std::marker::Model;
+
+// No two points of a step are further apart across, in sixteenths of a pixel.
+const MOST_ACROSS: u64 = 33_554_432;
 
 /// A round segment that is painted row by row by the chords of its width: a step of a line, most often a short one. Its
 /// ends lie within 2^20 pixels of the picture's corner.
@@ -63,11 +70,15 @@ impl<'a> RoundStep<'a> {
         ensures within { result.to ≤ height }
     {
         let reach = self.chords.width();
+        let rows = centres_about(self.from.y(), self.to.y(), reach, height);
+        if rows.from >= rows.to {
+            return rows;
+        }
         let columns = centres_about(self.from.x(), self.to.x(), reach, width);
         if columns.from >= columns.to {
             return Span { from: 0, to: 0 };
         }
-        centres_about(self.from.y(), self.to.y(), reach, height)
+        rows
     }
 
     /// The columns of a row, of so many, that it covers.
@@ -87,7 +98,7 @@ impl<'a> RoundStep<'a> {
             }
             return self.widened(discs, row, end);
         }
-        match self.first_beside(row, end) {
+        match self.some_beside(row, end) {
             Some(column) => self.widened(
                 Span {
                     from: column,
@@ -156,21 +167,35 @@ impl<'a> RoundStep<'a> {
         end
     }
 
-    // The first column of a row, of so many, that lies beside the step.
-    fn first_beside(&self, row: u16, end: u16) -> Option<u16>
+    // A column of a row, of so many, that lies beside the step: that in which its line crosses the row, or else the first one.
+    fn some_beside(&self, row: u16, end: u16) -> Option<u16>
         requires row { row < MAX_PICTURE_SIDE }
         requires end { end ≤ MAX_PICTURE_SIDE }
         ensures some { IfSome result (λ column. is_beside self.now.width self.now.edge row column ≡ true) }
         ensures within { IfSome result (λ column. column < end) }
         ensures none { result ≡ None → (i : ℕ) → i < end → is_beside self.now.width self.now.edge row i ≡ false }
     {
-        let columns = centres_about(self.from.x(), self.to.x(), self.chords.width(), end);
-        for column in columns.from..columns.to {
-            if self.is_beside(column, row) {
-                return Some(column);
-            }
+        let crossing = crossing(self.from, self.to, row);
+        if crossing < end && self.is_beside(crossing, row) {
+            return Some(crossing);
         }
-        None
+        self.first_beside(row, end)
+    }
+
+    // The first column of a row, of so many, that lies beside the step.
+    fn first_beside(&self, row: u16, end: u16) -> Option<u16>
+        requires row { row < MAX_PICTURE_SIDE }
+        ensures some { IfSome result (λ column. is_beside self.now.width self.now.edge row column ≡ true) }
+        ensures within { IfSome result (λ column. column < end) }
+        ensures none { result ≡ None → (i : ℕ) → i < end → is_beside self.now.width self.now.edge row i ≡ false }
+    {
+        let segment = RoundSegment::new(self.from, self.to, self.chords.width());
+        let columns = segment.beside_columns(row, end);
+        if columns.from < columns.to {
+            Some(columns.from)
+        } else {
+            None
+        }
     }
 
     // Whether the pixel of a column and a row lies beside the step.
@@ -179,25 +204,48 @@ impl<'a> RoundStep<'a> {
         requires row { row < MAX_PICTURE_SIDE }
         ensures { result ≡ is_beside self.now.width self.now.edge row column }
     {
-        let point = Device::pixel_centre(column, row);
-        is_abreast(self.from, self.to, point)
-            && is_square_at_most(aside(self.from, self.to, point), self.limit)
+        is_abreast(self.from, self.to, column, row)
+            && is_square_at_most(centre_aside(self.from, self.to, column, row), self.limit)
     }
 }
 
-// Whether a point lies between the perpendiculars through the ends.
-fn is_abreast(from: Device, to: Device, point: Device) -> bool
-    ensures { result ≡ is_abreast (record { from = from; to = to }) point }
+// Whether the centre of a pixel lies between the perpendiculars through the ends of a small edge.
+fn is_abreast(from: Device, to: Device, column: u16, row: u16) -> bool
+    requires small { IsSmallEdge (record { from = from; to = to }) }
+    requires column { column < MAX_PICTURE_SIDE }
+    requires row { row < MAX_PICTURE_SIDE }
+    ensures { result ≡ is_abreast (record { from = from; to = to }) (pixel_centre (pos column) (pos row)) }
 {
-    let along = along(from, to, point);
-    0 < along && along < apart(from, to)
+    let along = centre_along(from, to, column, row);
+    0 < along && along < square_length(from, to)
+}
+
+// About the column in which a segment crosses a row, or any other one. It is a guess, of which nothing is proved: the
+// caller tests it.
+fn crossing(from: Device, to: Device, row: u16) -> u16
+    requires small { IsSmallEdge (record { from = from; to = to }) }
+    requires row { row < MAX_PICTURE_SIDE }
+{
+    let across = difference(to.x(), from.x());
+    let down = difference(to.y(), from.y()).unsigned_abs();
+    if down == 0 {
+        return 0;
+    }
+    let below = difference(row_centre(row), from.y());
+    let far = (product(below, across).unsigned_abs() / down).min(MOST_ACROSS) as i64;
+    let x = if across < 0 {
+        from.x() - far
+    } else {
+        from.x() + far
+    };
+    clamped(i128::from(x.div_euclid(16)), MAX_PICTURE_SIDE)
 }
 
 // Whether the square of a number is at most another one.
-fn is_square_at_most(a: i128, most: i128) -> bool
+fn is_square_at_most(a: i64, most: i128) -> bool
     requires a { IsBelow (2 ^ 51) a }
     requires most { IsBelow (2 ^ 120) most }
     ensures { result ≡ int_le (square a) most }
 {
-    a * a <= most
+    i128::from(a) * i128::from(a) <= most
 }

@@ -180,8 +180,8 @@ fn half(width: u8) -> i64
     8 * i64::from(width)
 }
 
-// The difference of two small numbers.
-fn apart(a: i64, b: i64) -> i64
+/// The difference of two small numbers.
+pub fn apart(a: i64, b: i64) -> i64
     requires a { IsBelow (2 ^ 24) a }
     requires b { IsBelow (2 ^ 24) b }
     ensures value { result ≡ a -ℤ b }
@@ -190,8 +190,8 @@ fn apart(a: i64, b: i64) -> i64
     a - b
 }
 
-// The product of two differences.
-fn product(a: i64, b: i64) -> i64
+/// The product of two such differences.
+pub fn product(a: i64, b: i64) -> i64
     requires a { IsBelow (2 ^ 25) a }
     requires b { IsBelow (2 ^ 25) b }
     ensures value { result ≡ a *ℤ b }

@@ -25,16 +25,30 @@ returns-then-columns-clause-none c = λ i j column row out.
     subst (λ (v : SegmentValue). covers_round v.width v.edge (pixel_centre (pos i) (pos j)) ≡ false) c.self.view_is
     (not-across s.chords.now e (centre (pos i)) (centre (pos j)) (sym about ∙ none))
 
-pub returns-clause-none : goal.returns-clause-none
-returns-clause-none c = λ i j column row out.
+pub returns-then-rows-clause-none : goal.returns-then-rows-clause-none
+returns-then-rows-clause-none c = λ i j column row out.
     let s = c.self.inside in
     let e : EdgeEnds = record { from = s.from; to = s.to } in
-    let about : has_column c.centres_about.result j ≡ is_about s.chords.now e.from.y e.to.y (centre (pos j)) = rw (
+    let about : has_column c.centres_about-rows.result j ≡ is_about s.chords.now e.from.y e.to.y (centre (pos j)) = rw (
       c.y.ensures.value,
       word (2 ^ 47) s.from.y (omega arith) c.y.ensures.limits.down,
       c.y-2.ensures.value,
       word (2 ^ 47) s.to.y (omega arith) c.y-2.ensures.limits.down,
       c.width-reach.ensures.value,
-    ) at (c.centres_about.ensures.all j row) in
+    ) at (c.centres_about-rows.ensures.all j row) in
+    subst (λ (v : SegmentValue). covers_round v.width v.edge (pixel_centre (pos i) (pos j)) ≡ false) c.self.view_is
+    (not-down s.chords.now e (centre (pos i)) (centre (pos j)) (sym about ∙ out))
+
+pub returns-clause-none : goal.returns-clause-none
+returns-clause-none c = λ i j column row out.
+    let s = c.self.inside in
+    let e : EdgeEnds = record { from = s.from; to = s.to } in
+    let about : has_column c.centres_about-rows.result j ≡ is_about s.chords.now e.from.y e.to.y (centre (pos j)) = rw (
+      c.y.ensures.value,
+      word (2 ^ 47) s.from.y (omega arith) c.y.ensures.limits.down,
+      c.y-2.ensures.value,
+      word (2 ^ 47) s.to.y (omega arith) c.y-2.ensures.limits.down,
+      c.width-reach.ensures.value,
+    ) at (c.centres_about-rows.ensures.all j row) in
     subst (λ (v : SegmentValue). covers_round v.width v.edge (pixel_centre (pos i) (pos j)) ≡ false) c.self.view_is
     (not-down s.chords.now e (centre (pos i)) (centre (pos j)) (sym about ∙ out))
