@@ -1,4 +1,5 @@
 ghost use Rattle.std.specs.Prelude.{◌≡◌, ℕ, ◌<◌, ◌≤◌, ◌^◌, ◌*◌, ◌&&◌, pos, neg_ℤ, ◌+ℤ◌, ◌-ℤ◌, ◌*ℤ◌, int_le};
+ghost use Rattle.std.specs.Int.{int_div_euclid};
 ghost use Rattle.geom.specs.Device.{centre, pixel_centre};
 ghost use Rattle.geom.specs.Range.{IsBelow};
 ghost use Rattle.geom.specs.declared.side.TheConstants.{MAX_PICTURE_SIDE};
@@ -75,9 +76,26 @@ pub fn centres_between(least: i64, most: i64, end: u16) -> Span
     ensures all { (i : ℕ) → i < end → has_column result i ≡ (int_le least (centre (pos i)) && int_le (centre (pos i)) most) }
     ensures within { result.to ≤ end }
 {
-    let from = (least + 7).div_euclid(16);
-    let last = (most - 8).div_euclid(16);
-    Span::clipped(from, last + 1, end)
+    Span::clipped(sixteenth(least, 7), sixteenth(most, 8), end)
+}
+
+// A sixteenth of the sum of two numbers, rounded down. The first is lifted above 0, so that dividing is one shift.
+fn sixteenth(z: i64, more: u64) -> i64
+    requires z { IsBelow (2 ^ 62) z }
+    requires more { more ≤ 8 }
+    ensures value { result ≡ int_div_euclid (z +ℤ pos more) (pos 16) }
+    ensures range { IsBelow (2 ^ 62) result }
+{
+    ((lifted(z) + more) / 16) as i64 - 288_230_376_151_711_744
+}
+
+// A number, lifted above 0 by 2^62.
+fn lifted(z: i64) -> u64
+    requires { IsBelow (2 ^ 62) z }
+    ensures value { pos result ≡ z +ℤ pos (2 ^ 62) }
+    ensures range { result < 2 ^ 63 }
+{
+    (z + 4_611_686_018_427_387_904) as u64
 }
 
 /// The columns, or the rows, of so many, whose centres lie at most half a width before the lesser of two numbers and after the
