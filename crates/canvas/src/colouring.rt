@@ -51,8 +51,17 @@ fn fill_span(row: &mut [PixelColour], span: Span, colour: Rgb)
     requires within { span.to ≤ length row.old }
     ensures { (i : ℕ) → colour_of row.new i ≡ (if has_column span i then Some colour else colour_of row.old i) }
 {
-    row[usize::from(span.from)..usize::from(span.to)].fill(PixelColour::new(Some(colour)));
+    let count = span.to - span.from;
+    if count < FEW || 2 * FEW < count {
+        fill_run(row, span.from, count, colour);
+    } else {
+        fill_run(row, span.from, FEW, colour);
+        fill_run(row, span.to - FEW, FEW, colour);
+    }
 }
+
+// So many pixels are filled by one store, and up to twice as many by two, which may have pixels in common.
+const FEW: u16 = 4;
 
 /// A box of pixels of a picture: columns from one on, in some rows.
 #[derive(Clone, Copy)]
