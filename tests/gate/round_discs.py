@@ -10,7 +10,7 @@ has the means of the fine pixels. The drawings of docs/DRAWING.md are tried on t
 in each map of a table the fault that is worked by hand, by its line and its kind, or none. The script ends with 1 where a
 picture or a fault differs, and prints the map.
 
-Gate: PROGRAM 100; 5 s
+Gate: PROGRAM 100; 3 s
 """
 import pathlib
 import random
