@@ -2,11 +2,11 @@
 """Tries that workers answer at the same time. Usage: workers_at_once.py PROGRAM
 
 The server has two workers. The first client asks for a picture that is dear: a polygon of 65,536 spikes, in sixteen layers, so
-high that one answer takes two seconds, some. The second, whose connection is the other worker's, asks for the
+high, and these named so often, that one answer takes two seconds, some. The second, whose connection is the other worker's, asks for the
 capabilities meanwhile: at once, 60 ms later, and in pieces. It is to have its answer while the first still waits for its
 own. With a lock round the answers of all workers it would always come behind. Where the machine was busy as the dear
-picture was measured, its answer may be there too early: each way is tried six times at most, each time with a picture
-twice as high. The exit status is 1 where the answer came behind each time, or where an answer is another one.
+picture was measured, its answer may be there too early: each way is tried four times at most, each time with a picture
+twice as dear. The exit status is 1 where the answer came behind each time, or where an answer is another one.
 
 Gate: PROGRAM; 15 s
 """
@@ -26,7 +26,8 @@ from served import ports_of, read_all
 SPIKES = 65_536
 LONG = 2.0  # seconds of the dear answer, some
 LAYERS, MOST = 16, 2_048  # layers, and pixels of height at most
-TRIES = 6
+MENTIONS = 4  # of a layer: more than 64 names are refused
+TRIES = 4
 SMALL = b"GET /wms?REQUEST=GetCapabilities&SERVICE=WMS HTTP/1.1\r\nConnection: close\r\n\r\n"
 
 
@@ -37,10 +38,11 @@ def write_map(path):
     path.write_text(f"MAP {''.join(layers)} END\n", encoding="ascii")
 
 
-def dear(height):
-    """A request for all layers, so high, or as high as a picture may be."""
-    height = min(MOST, height)
-    names = ",".join(f"d{k}" for k in range(LAYERS))
+def dear(rows):
+    """A request for so many rows of all layers: where a picture can't be so high, its layers are named more than once."""
+    mentions = min(MENTIONS, -(-rows // MOST))
+    height = min(MOST, -(-rows // mentions))
+    names = ",".join(f"d{k}" for _ in range(mentions) for k in range(LAYERS))
     query = f"VERSION=1.3.0&REQUEST=GetMap&LAYERS={names}&STYLES=&CRS=CRS:84&BBOX=0,0,4,4&WIDTH=16&HEIGHT={height}&FORMAT=image/x-portable-pixmap"
     return f"GET /wms?{query} HTTP/1.1\r\nConnection: close\r\n\r\n".encode()
 
@@ -61,12 +63,12 @@ def seconds_of(port, request):
     return time.monotonic() - began
 
 
-def long_height(port):
-    """The height of a picture that takes some two seconds, by how long lower ones take."""
-    height = 32
-    while (took := min(seconds_of(port, dear(height)) for _ in range(2))) < LONG / 2 and height < MOST:
-        height = 2 * height
-    return int(height * LONG / took) + 1
+def long_rows(port):
+    """How many rows take some two seconds, by how long fewer take."""
+    rows = 32
+    while (took := min(seconds_of(port, dear(rows)) for _ in range(2))) < LONG / 4 and rows < MENTIONS * MOST:
+        rows = 2 * rows
+    return int(rows * LONG / took) + 1
 
 
 def is_answered_meanwhile(port, request, pieces, delay):
@@ -95,9 +97,9 @@ def main():
         with subprocess.Popen(words, stdout=subprocess.PIPE) as server:
             try:
                 port = ports_of(server.stdout.readline())[0]
-                height = long_height(port)
+                rows = long_rows(port)
                 behind = [way for way, (pieces, delay) in ways.items()
-                          if not any(is_answered_meanwhile(port, dear(height << k), pieces, delay) for k in range(TRIES))]
+                          if not any(is_answered_meanwhile(port, dear(rows << k), pieces, delay) for k in range(TRIES))]
             finally:
                 server.kill()
     print(f"{len(ways) - len(behind)} answers came meanwhile, {len(behind)} behind" + (f": {', '.join(behind)}" if behind else ""))
