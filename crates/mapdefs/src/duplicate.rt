@@ -96,7 +96,7 @@ impl Duplicate for Map {
             png: fields.png,
             mercator: fields.mercator,
             smoothing: fields.smoothing,
-            font: fields.font.duplicate(alloc)?,
+            fonts: fields.fonts.duplicate(alloc)?,
             symbols: fields.symbols.duplicate(alloc)?,
             layers: fields.layers.duplicate(alloc)?,
         }))

@@ -6,8 +6,8 @@ use crate::{Items, Limited, Limits};
 pub struct BitmapBox {
     pub width: u8,
     pub height: u8,
-    pub xoff: i8,
-    pub yoff: i8,
+    pub xoff: i16,
+    pub yoff: i16,
 }
 
 /// One character of a font.
@@ -22,9 +22,11 @@ pub struct Glyph {
     pub rows: Items<bool>,
 }
 
-/// What a font is made of: the box of all its characters, and its glyphs by rising encodings.
+/// What a font is made of: the box of all its characters, its glyphs by rising encodings, and the greatest side or offset, in
+/// pixels, that the box or a glyph of its file has.
 #[derive(Debug, Drop)]
 pub struct FontFields {
+    pub side: u8,
     pub bounds: BitmapBox,
     pub glyphs: Items<Glyph>,
 }
@@ -35,7 +37,7 @@ impl Limits for FontFields {
     ghost within = { IsFontWithinLimits };
 }
 
-/// A bitmap font. Sides and offsets are at most `MAX_GLYPH_SIDE` in size, and it has at most
+/// A bitmap font. Sides and offsets are at most its `side` in size, and it has at most
 /// `MAX_GLYPHS` glyphs. Their encodings rise: no two glyphs have the same one, and a binary search finds
 /// it.
 pub type Font = Limited<FontFields>;

@@ -1,4 +1,8 @@
-use crate::{Limited, Limits, Rgb};
+ghost use Rattle.std.specs.Prelude.{◌≡◌};
+ghost use Rattle.std.specs.Option.{option_copied};
+ghost use Rattle.mapdefs.specs.Fonts.{label_font};
+
+use crate::{Font, Limited, Limits, Rgb};
 
 /// Where a label's text stands, seen from its anchor: above, centred or below, and left, centred or
 /// right. `Automatic` leaves the choice to the placement.
@@ -25,6 +29,8 @@ pub struct LabelFields {
     pub outline: Option<Rgb>,
     /// How wide the outline is on a fine picture, in pixels of the map. Elsewhere it has the eight neighbours of ink.
     pub outline_width: u8,
+    /// The font of the text, by its index in the map's; without one there is no label.
+    pub font: Option<usize>,
     /// Labels of higher priority go first.
     pub priority: u8,
     pub position: Position,
@@ -42,6 +48,15 @@ impl Limits for LabelFields {
     ghost use Rattle.mapdefs.specs.StyleLimits.{IsLabelWithinLimits};
 
     ghost within = { IsLabelWithinLimits };
+}
+
+impl LabelFields {
+    /// The font of the label, if it has one that is among the fonts of its map.
+    pub fn font_in<'f>(&self, fonts: &'f [Font]) -> Option<&'f Font>
+        ensures { option_copied result ≡ label_font fonts.now self.now }
+    {
+        fonts.get(self.font?)
+    }
 }
 
 /// The label of a class. Its outline's width is 1 to `MAX_OUTLINE_WIDTH`, its priority 1 to `MAX_PRIORITY`, its buffer at

@@ -58,5 +58,11 @@ pub const MAX_DISTANCE: u16 = 4_096;
 /// The greatest side and offset of a font's box and of a glyph, in pixels.
 pub const MAX_GLYPH_SIDE: u8 = 64;
 
+/// The greatest side and offset of those of a font of a smoothed map, in pixels of its fine pictures.
+pub const MAX_FINE_GLYPH_SIDE: u8 = 255;
+
+/// The most fonts of a map that have names of their own, beside the one of labels that name none.
+pub const MAX_FONT_NAMES: usize = 16;
+
 /// The most glyphs of a font.
 pub const MAX_GLYPHS: usize = 65_536;

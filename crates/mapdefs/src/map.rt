@@ -3,7 +3,7 @@ ghost use Rattle.mapdefs.specs.LayerLimits.{HasValues};
 ghost use Rattle.mapdefs.specs.declared.limits.TheConstants.{MAX_FEATURES};
 
 use crate::layer::{append_at, clear_at, switch_at};
-use crate::{Feature, Font, Items, Layer, Limited, Limits, Shared, SharedItems, Symbol, Text};
+use crate::{Feature, Font, Items, Layer, Limited, Limits, SharedItems, Symbol, Text};
 use geom::{Factor, WorldBox};
 use std::alloc::{AllocError, Global};
 
@@ -22,8 +22,8 @@ pub struct MapFields {
     pub mercator: bool,
     /// How many times as fine as the map's pictures those are of which they are the means.
     pub smoothing: Factor,
-    /// The font of the labels.
-    pub font: Option<Shared<Font>>,
+    /// The fonts of the labels.
+    pub fonts: SharedItems<Font>,
     pub symbols: SharedItems<Symbol>,
     pub layers: Items<Layer>,
 }
