@@ -31,6 +31,8 @@ pub struct LabelFields {
     pub outline_width: u8,
     /// The font of the text, by its index in the map's; without one there is no label.
     pub font: Option<usize>,
+    /// Whether it names a font that the map doesn't have. It has that of labels that name none, if there is one.
+    pub lacks_font: bool,
     /// Labels of higher priority go first.
     pub priority: u8,
     pub position: Position,
