@@ -66,6 +66,7 @@ same-glyphs (x ∷ xs) (y ∷ ys) rising_x rising_y same =
 pub file-has-one-font : FileHasOneFont
 file-has-one-font file a b of_a of_b =
     let glyphs = same-glyphs a.glyphs b.glyphs of_a.glyphs.rising of_b.glyphs.rising (λ e. of_a.glyphs.firsts e ∙ sym (of_b.glyphs.firsts e)) in
-    let with_bounds : BitmapBox → FontFields = λ bounds. record { bounds = bounds; glyphs = a.glyphs } in
-    let with_glyphs : List Glyph → FontFields = λ glyphs. record { bounds = b.bounds; glyphs = glyphs } in
-    ap with_bounds (of_a.bounds ∙ sym of_b.bounds) ∙ ap with_glyphs glyphs
+    let with_side : ℕ → FontFields = λ side. record { side = side; bounds = a.bounds; glyphs = a.glyphs } in
+    let with_bounds : BitmapBox → FontFields = λ bounds. record { side = b.side; bounds = bounds; glyphs = a.glyphs } in
+    let with_glyphs : List Glyph → FontFields = λ glyphs. record { side = b.side; bounds = b.bounds; glyphs = glyphs } in
+    ap with_side (of_a.side ∙ sym of_b.side) ∙ ap with_bounds (of_a.bounds ∙ sym of_b.bounds) ∙ ap with_glyphs glyphs

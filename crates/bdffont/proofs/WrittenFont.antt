@@ -9,7 +9,7 @@ use Rattle.std.proofs.lemmas.List.Splits.{slice_split_at, slice_split_none}
 use Rattle.std.specs.Char.{is_ascii_digit}
 use Rattle.std.specs.Fmt.{decimal}
 use Rattle.std.specs.List.{flat_map, list_all, slice_split}
-use Rattle.std.specs.Prelude.{◌==◌, All, Option, Result, nat_le, nat_lt, unsigned_abs}
+use Rattle.std.specs.Prelude.{◌==◌, All, Option, Result, max, nat_le, nat_lt, unsigned_abs}
 use lib.IntN.{ℤ, pos, negsuc}
 use Rattle.geom.proofs.Digits.{digits-cons}
 use Rattle.geom.proofs.Written.{IsNumeralOf, digit-not, numeral}
@@ -17,8 +17,9 @@ use Rattle.geom.specs.Decimal.{signed}
 use Rattle.mapdefs.specs.declared.font.BitmapBox.{BitmapBox}
 use Rattle.mapdefs.specs.declared.font.FontFields.{FontFields}
 use Rattle.mapdefs.specs.declared.font.Glyph.{Glyph}
-use Rattle.mapdefs.specs.declared.limits.TheConstants.{MAX_GLYPHS}
+use Rattle.mapdefs.specs.declared.limits.TheConstants.{MAX_FINE_GLYPH_SIDE, MAX_GLYPHS}
 use Rattle.bdffont.specs.declared.fault.FontKind.{FontKind}
+use Rattle.bdffont.specs.declared.fields.BoxNumbers.{BoxNumbers}
 use Rattle.bdffont.specs.declared.fields.Encoding.{Encoding}
 use Rattle.bdffont.specs.declared.fields.Encoding.TheVariants.{Character}
 use Rattle.bdffont.specs.declared.keyword.Keyword.{Keyword}
@@ -36,10 +37,11 @@ use Rattle.bdffont.specs.Fields.{advance_at, box_at, box_of, count_at, encoding_
 use Rattle.bdffont.specs.File.{reads}
 use Rattle.bdffont.specs.Keyword.{keyword_in, keyword_of, spelling}
 use Rattle.bdffont.specs.Number.{number_of, size_of}
-use Rattle.bdffont.specs.Sections.{between, closed, has_properties, in_glyph, in_header, opened, opens_properties, says, section_after}
+use Rattle.bdffont.specs.Sections.{between, closed, has_properties, in_glyph, in_header, opened, opens_properties, says, section_after, start}
+use Rattle.bdffont.specs.Side.{box_side, side_of, with_sides}
 use Rattle.mapdefs.specs.Outcome.{and_then}
 use Rattle.bdffont.specs.Words.{is_space, words}
-use Rattle.bdffont.specs.Writing.{IsBox, IsGlyph, OtherLinesAreSkipped, WrittenFontIsRead, allows_others, box_words, glyph_lines, line_of, row_lines, whole}
+use Rattle.bdffont.specs.Writing.{IsBox, IsGlyph, OtherLinesAreSkipped, WrittenFontIsRead, allows_others, box_words, font_lines, glyph_lines, line_of, row_lines, whole}
 use Rattle.bdffont.proofs.Words.{kept-first}
 use Rattle.bdffont.proofs.Written.{written-row-is-read}
 
@@ -162,30 +164,34 @@ whole-size (pos n) = refl
 whole-size (negsuc n) = refl
 
 -- the words of a box, and what they are read as
-box-are : (b : BitmapBox) → IsBox b → All IsWord (box_words b)
-box-are b is =
-    All-cons IsWord (decimal b.width) (decimal b.height ∷ whole b.xoff ∷ whole b.yoff ∷ []) (decimal-word b.width (omega (arith, is.columns)))
-    (All-cons IsWord (decimal b.height) (whole b.xoff ∷ whole b.yoff ∷ []) (decimal-word b.height (omega (arith, is.rows)))
-    (All-cons IsWord (whole b.xoff) (whole b.yoff ∷ []) (whole-word b.xoff (omega (arith, is.right)))
-    (All-cons IsWord (whole b.yoff) [] (whole-word b.yoff (omega (arith, is.up))) none)))
+box-are : (most : ℕ) (b : BitmapBox) → most ≤ MAX_FINE_GLYPH_SIDE → IsBox most b → All IsWord (box_words b)
+box-are most b fine is =
+    All-cons IsWord (decimal b.width) (decimal b.height ∷ whole b.xoff ∷ whole b.yoff ∷ []) (decimal-word b.width (omega (arith, fine, is.columns)))
+    (All-cons IsWord (decimal b.height) (whole b.xoff ∷ whole b.yoff ∷ []) (decimal-word b.height (omega (arith, fine, is.rows)))
+    (All-cons IsWord (whole b.xoff) (whole b.yoff ∷ []) (whole-word b.xoff (omega (arith, fine, is.right)))
+    (All-cons IsWord (whole b.yoff) [] (whole-word b.yoff (omega (arith, fine, is.up))) none)))
 
-box-of : (b : BitmapBox) → IsBox b → box_of (record { is_negative = false; size = b.width }) (record { is_negative = false; size = b.height }) (whole_of b.xoff) (whole_of b.yoff) ≡ Ok b
-box-of b is =
-    let columns : nat_le b.width 64 ≡ true = grind (arith, nat_tests, is.columns) in
-    let rows : nat_le b.height 64 ≡ true = grind (arith, nat_tests, is.rows) in
-    let right : nat_le (whole_of b.xoff).size 64 ≡ true = grind (arith, nat_tests, is.right, whole-size b.xoff) in
-    let up : nat_le (whole_of b.yoff).size 64 ≡ true = grind (arith, nat_tests, is.up, whole-size b.yoff) in
+-- the numbers of a box
+abbrev numbers : BitmapBox → BoxNumbers
+numbers b = record { width = record { is_negative = false; size = b.width }; height = record { is_negative = false; size = b.height }; xoff = whole_of b.xoff; yoff = whole_of b.yoff }
+
+box-of : (most : ℕ) (b : BitmapBox) → IsBox most b → box_of most (numbers b) ≡ Ok b
+box-of most b is =
+    let columns : nat_le b.width most ≡ true = grind (arith, nat_tests, is.columns) in
+    let rows : nat_le b.height most ≡ true = grind (arith, nat_tests, is.rows) in
+    let right : nat_le (whole_of b.xoff).size most ≡ true = grind (arith, nat_tests, is.right, whole-size b.xoff) in
+    let up : nat_le (whole_of b.yoff).size most ≡ true = grind (arith, nat_tests, is.up, whole-size b.yoff) in
     rw (columns, rows, right, up, whole-signed b.xoff, whole-signed b.yoff) refl
 
-box-read : (keyword : Keyword) (b : BitmapBox) → IsBox b → box_at (line_of keyword (box_words b)) ≡ Ok b
-box-read keyword b is =
+box-read : (most : ℕ) (keyword : Keyword) (b : BitmapBox) → most ≤ MAX_FINE_GLYPH_SIDE → IsBox most b → box_at most (line_of keyword (box_words b)) ≡ Ok b
+box-read most keyword b fine is =
     rw (
-      words-line keyword (box_words b) (box-are b is),
-      decimal-read b.width (omega (arith, is.columns)),
-      decimal-read b.height (omega (arith, is.rows)),
-      whole-read b.xoff (omega (arith, is.right)),
-      whole-read b.yoff (omega (arith, is.up)),
-    ) (box-of b is)
+      words-line keyword (box_words b) (box-are most b fine is),
+      decimal-read b.width (omega (arith, fine, is.columns)),
+      decimal-read b.height (omega (arith, fine, is.rows)),
+      whole-read b.xoff (omega (arith, fine, is.right)),
+      whole-read b.yoff (omega (arith, fine, is.up)),
+    ) (box-of most b is)
 
 one-word : (n : ℕ) → n < 2 ^ 32 → All IsWord (decimal n ∷ [])
 one-word n h = All-cons IsWord (decimal n) [] (decimal-word n h) none
@@ -266,28 +272,32 @@ rows-read d e a b texts f (suc n) before pixels area next =
     (row-said d e a b n before row wide)
     (rows-read d e a b texts f n (before ++ row) others (omega (arith, area, length-drop b.width pixels)) rest)
 
+-- a font with one glyph more
+abbrev after : Draft → Glyph → Draft
+after d g = record d { side = max d.side (box_side g.bounds); started = d.started + 1; glyphs = d.glyphs ++ g ∷ [] }
+
 -- a glyph, from where STARTCHAR opens it on
-glyph-read : (section : Section) (d : Draft) (up : ℕ) (g : Glyph) (texts : List (List ℕ)) (f : FontFields) → up < 2 ^ 32 → IsGlyph g → nat_lt d.started MAX_GLYPHS ≡ true →
+glyph-read : (section : Section) (d : Draft) (up : ℕ) (g : Glyph) (texts : List (List ℕ)) (f : FontFields) → d.most ≤ MAX_FINE_GLYPH_SIDE → up < 2 ^ 32 → IsGlyph d.most g → nat_lt d.started MAX_GLYPHS ≡ true →
     section_after section (line_of word.StartChar []) ≡ opened d →
-    Reads (at (Between (record { bounds = d.bounds; count = d.count; started = d.started + 1; glyphs = d.glyphs ++ g ∷ [] }))) texts f →
+    Reads (at (Between (after d g))) texts f →
     Reads (at section) (glyph_lines up g ++ texts) f
-glyph-read section d up g texts f small is room opens next =
+glyph-read section d up g texts f fine small is room opens next =
     line-step section (InGlyph more fresh) word.StartChar [] _ f none refl (opens ∙ rw room refl)
     (line-step (InGlyph more fresh) (InGlyph more encoded) word.Encoding (decimal g.encoding ∷ []) _ f (one-word g.encoding is.encoding) refl
     (header word.Encoding (decimal g.encoding ∷ []) fresh (one-word g.encoding is.encoding) ∙ rw (encoding-read g.encoding is.encoding) refl)
     (line-step (InGlyph more encoded) (InGlyph more advanced) word.Dwidth (decimal g.advance ∷ decimal up ∷ []) _ f (two-words g.advance up is.advance small) refl
     (header word.Dwidth (decimal g.advance ∷ decimal up ∷ []) encoded (two-words g.advance up is.advance small) ∙ rw (advance-read g.advance up is.advance small) refl)
-    (line-step (InGlyph more advanced) (InGlyph more bounded) word.Bbx (box_words g.bounds) _ f (box-are g.bounds is.bounds) refl
-    (header word.Bbx (box_words g.bounds) advanced (box-are g.bounds is.bounds) ∙ rw (box-read word.Bbx g.bounds is.bounds) refl)
+    (line-step (InGlyph more advanced) (InGlyph more bounded) word.Bbx (box_words g.bounds) _ f (box-are d.most g.bounds fine is.bounds) refl
+    (header word.Bbx (box_words g.bounds) advanced (box-are d.most g.bounds fine is.bounds) ∙ rw (box-read d.most word.Bbx g.bounds fine is.bounds) refl)
     (line-step (InGlyph more bounded) (InRows more (rows_at (Character g.encoding) g.advance g.bounds [] g.bounds.height)) word.Bitmap [] _ f none refl
     (header word.Bitmap [] bounded none)
     (rw (append_assoc (row_lines g.bounds.width g.bounds.height g.rows) (line_of word.EndChar [] ∷ []) texts)
     (rows-read more (Character g.encoding) g.advance g.bounds (line_of word.EndChar [] ∷ texts) f g.bounds.height [] g.rows is.area
-    (line-step (InRows more (rows_at (Character g.encoding) g.advance g.bounds g.rows 0)) (Between (record more { glyphs = d.glyphs ++ g ∷ [] })) word.EndChar [] texts f none refl
+    (line-step (InRows more (rows_at (Character g.encoding) g.advance g.bounds g.rows 0)) (Between (after d g)) word.EndChar [] texts f none refl
     (rw (keyword-line word.EndChar [] none) refl) next)))))))
   where
     more : Draft
-    more = record { bounds = d.bounds; count = d.count; started = d.started + 1; glyphs = d.glyphs }
+    more = record d { started = d.started + 1 }
 
     fresh : GlyphHeader
     fresh = record { encoding = None; advance = None; bounds = None }
@@ -306,44 +316,52 @@ glyph-read section d up g texts f small is room opens next =
     header keyword ws h are = ap (λ (k : Option Keyword). in_glyph more h k (line_of keyword ws)) (keyword-line keyword ws are)
 
 -- all glyphs from one on, and the end of the font
-glyphs-read : (section : Section) (d : Draft) (up : ℕ) (glyphs : List Glyph) → up < 2 ^ 32 → All IsGlyph glyphs → d.started + length glyphs ≡ d.count → d.count ≤ MAX_GLYPHS →
+glyphs-read : (section : Section) (d : Draft) (up : ℕ) (glyphs : List Glyph) → d.most ≤ MAX_FINE_GLYPH_SIDE → up < 2 ^ 32 → All (IsGlyph d.most) glyphs → d.started + length glyphs ≡ d.count → d.count ≤ MAX_GLYPHS →
     section_after section (line_of word.StartChar []) ≡ opened d → section_after section (line_of word.EndFont []) ≡ closed d →
-    Reads (at section) (flat_map (glyph_lines up) glyphs ++ line_of word.EndFont [] ∷ []) (record { bounds = d.bounds; glyphs = d.glyphs ++ glyphs })
+    Reads (at section) (flat_map (glyph_lines up) glyphs ++ line_of word.EndFont [] ∷ []) (record { side = with_sides d.side glyphs; bounds = d.bounds; glyphs = d.glyphs ++ glyphs })
 unfolding reads
-glyphs-read section d up [] small are count most opens closes =
+glyphs-read section d up [] fine small are count most opens closes =
     let all : (d.started == d.count) ≡ true = grind (arith, nat_tests, count) in
-    let font : FontFields = record { bounds = d.bounds; glyphs = d.glyphs } in
+    let font : FontFields = record { side = d.side; bounds = d.bounds; glyphs = d.glyphs } in
     rw (append-nil d.glyphs) (line-step section (Ended font) word.EndFont [] [] font none refl (closes ∙ rw all refl) (λ line. refl))
-glyphs-read section d up (g ∷ gs) small are count most opens closes =
+glyphs-read section d up (g ∷ gs) fine small are count most opens closes =
     let room : nat_lt d.started MAX_GLYPHS ≡ true = grind (arith, nat_tests, count, most) in
-    let more : Draft = record { bounds = d.bounds; count = d.count; started = d.started + 1; glyphs = d.glyphs ++ g ∷ [] } in
-    let rest = glyphs-read (Between more) more up gs small (All-tail IsGlyph g gs are) (omega (arith, count)) most
+    let more = after d g in
+    let rest = glyphs-read (Between more) more up gs fine small (All-tail (IsGlyph d.most) g gs are) (omega (arith, count)) most
     (ap (between more) (keyword-line word.StartChar [] none)) (ap (between more) (keyword-line word.EndFont [] none)) in
-    subst (λ (texts : List (List ℕ)). Reads (at section) texts (record { bounds = d.bounds; glyphs = d.glyphs ++ g ∷ gs }))
+    let font : FontFields = record { side = with_sides more.side gs; bounds = d.bounds; glyphs = d.glyphs ++ g ∷ gs } in
+    subst (λ (texts : List (List ℕ)). Reads (at section) texts font)
     (sym (append_assoc (glyph_lines up g) (flat_map (glyph_lines up) gs) (line_of word.EndFont [] ∷ [])))
-    (glyph-read section d up g (flat_map (glyph_lines up) gs ++ line_of word.EndFont [] ∷ []) (record { bounds = d.bounds; glyphs = d.glyphs ++ g ∷ gs }) small (All-head IsGlyph g gs are) room opens
+    (glyph-read section d up g (flat_map (glyph_lines up) gs ++ line_of word.EndFont [] ∷ []) font fine small (All-head (IsGlyph d.most) g gs are) room opens
     (rw (append_assoc d.glyphs (g ∷ []) gs) at rest))
 
 -- the law
 pub written-font-is-read : WrittenFontIsRead
-written-font-is-read f up line small is =
+written-font-is-read most f up line fine small is =
     let few : length f.glyphs < 2 ^ 32 = omega (arith, is.count) in
-    line-step Before (InHeader none_named) word.StartFont [] _ f none refl (rw (keyword-line word.StartFont [] none) refl)
-    (line-step (InHeader none_named) (InHeader box_named) word.FontBoundingBox (box_words f.bounds) _ f (box-are f.bounds is.bounds) refl
-    (header none_named word.FontBoundingBox (box_words f.bounds) (box-are f.bounds is.bounds) ∙ rw (box-read word.FontBoundingBox f.bounds is.bounds) refl)
-    (line-step (InHeader box_named) (InHeader both_named) word.Chars (decimal (length f.glyphs) ∷ []) _ f (one-word (length f.glyphs) few) refl
+    subst (λ (font : FontFields). reads (start most) line (font_lines up f) ≡ Ok font) (ap with_side (sym is.side))
+    (line-step (Before most) (InHeader none_named) word.StartFont [] _ font none refl (rw (keyword-line word.StartFont [] none) refl)
+    (line-step (InHeader none_named) (InHeader box_named) word.FontBoundingBox (box_words f.bounds) _ font (box-are most f.bounds fine is.bounds) refl
+    (header none_named word.FontBoundingBox (box_words f.bounds) (box-are most f.bounds fine is.bounds) ∙ rw (box-read most word.FontBoundingBox f.bounds fine is.bounds) refl)
+    (line-step (InHeader box_named) (InHeader both_named) word.Chars (decimal (length f.glyphs) ∷ []) _ font (one-word (length f.glyphs) few) refl
     (header box_named word.Chars (decimal (length f.glyphs) ∷ []) (one-word (length f.glyphs) few) ∙ rw (count-read (length f.glyphs) few) refl)
-    (glyphs-read (InHeader both_named) (record { bounds = f.bounds; count = length f.glyphs; started = 0; glyphs = [] }) up f.glyphs small is.each (omega arith) is.count
-    (header both_named word.StartChar [] none) (header both_named word.EndFont [] none)))) line
+    (glyphs-read (InHeader both_named) (record { most = most; side = box_side f.bounds; bounds = f.bounds; count = length f.glyphs; started = 0; glyphs = [] }) up f.glyphs fine small is.each
+    (omega arith) is.count (header both_named word.StartChar [] none) (header both_named word.EndFont [] none)))) line)
   where
+    with_side : ℕ → FontFields
+    with_side side = record { side = side; bounds = f.bounds; glyphs = f.glyphs }
+
+    font : FontFields
+    font = with_side (side_of f.bounds f.glyphs)
+
     none_named : FontHeader
-    none_named = record { bounds = None; count = None }
+    none_named = record { most = most; bounds = None; count = None }
 
     box_named : FontHeader
-    box_named = record { bounds = Some f.bounds; count = None }
+    box_named = record { most = most; bounds = Some f.bounds; count = None }
 
     both_named : FontHeader
-    both_named = record { bounds = Some f.bounds; count = Some (length f.glyphs) }
+    both_named = record { most = most; bounds = Some f.bounds; count = Some (length f.glyphs) }
 
     header : (h : FontHeader) (keyword : Keyword) (ws : List (List ℕ)) → All IsWord ws → section_after (InHeader h) (line_of keyword ws) ≡ in_header h (Some keyword) (line_of keyword ws)
     header h keyword ws are = ap (λ (k : Option Keyword). in_header h k (line_of keyword ws)) (keyword-line keyword ws are)
@@ -356,7 +374,7 @@ skipped text missing (InHeader header) false h = rw missing refl
 skipped text missing (Between d) false h = rw missing refl
 skipped text missing (InGlyph d g) false h = rw missing refl
 skipped text missing (Ended font) false h = rw missing refl
-skipped text missing Before false h = absurd (false≢true h)
+skipped text missing (Before most) false h = absurd (false≢true h)
 skipped text missing (InRows d r) false h = absurd (false≢true h)
 
 pub others-are-skipped : OtherLinesAreSkipped

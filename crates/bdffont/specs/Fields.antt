@@ -2,34 +2,47 @@
 use Rattle.std.specs.Prelude.{ℕ, ◌^◌, Bool, not, ◌||◌, ◌&&◌, nat_le, nat_lt, if◌then◌else◌, List, Option, None, Some, Result, Ok, Err}
 use Rattle.geom.specs.Decimal.{signed}
 use Rattle.mapdefs.specs.declared.font.BitmapBox.{BitmapBox}
-use Rattle.mapdefs.specs.declared.limits.TheConstants.{MAX_GLYPH_SIDE}
 use Rattle.bdffont.specs.declared.fault.FontKind.{FontKind}
 use Rattle.bdffont.specs.declared.fault.FontKind.TheVariants.{Field, Limit}
+use Rattle.bdffont.specs.declared.fields.BoxNumbers.{BoxNumbers}
 use Rattle.bdffont.specs.declared.fields.Encoding.{Encoding}
 use Rattle.bdffont.specs.declared.fields.Encoding.TheVariants.{NoCharacter, Character}
 use Rattle.bdffont.specs.declared.number.WholeNumber.{WholeNumber}
 use Rattle.bdffont.specs.Number.{number_at}
 
 -- a side or an offset is within its limit
-abbrev pub is_small : WholeNumber → Bool
-is_small n = nat_le n.size MAX_GLYPH_SIDE
+abbrev pub is_small : ℕ → WholeNumber → Bool
+is_small most n = nat_le n.size most
+
+-- so are all four of a box
+abbrev pub are_small : ℕ → BoxNumbers → Bool
+are_small most b = ((is_small most b.width && is_small most b.height) && is_small most b.xoff) && is_small most b.yoff
 
 -- the box of a width, a height and two offsets: its sides are not negative, and all four are small
-abbrev pub box_of : WholeNumber → WholeNumber → WholeNumber → WholeNumber → Result BitmapBox FontKind
-box_of w h x y =
-    if w.is_negative || h.is_negative then Err Field
-    else (if ((is_small w && is_small h) && is_small x) && is_small y
-    then Ok (record { width = w.size; height = h.size; xoff = signed x.is_negative x.size; yoff = signed y.is_negative y.size })
+abbrev pub box_of : ℕ → BoxNumbers → Result BitmapBox FontKind
+box_of most b =
+    if b.width.is_negative || b.height.is_negative then Err Field
+    else (if are_small most b
+    then Ok (record { width = b.width.size; height = b.height.size; xoff = signed b.xoff.is_negative b.xoff.size; yoff = signed b.yoff.is_negative b.yoff.size })
     else Err Limit)
 
--- the box of four numbers, if all are there
-abbrev pub box_with : Option WholeNumber → Option WholeNumber → Option WholeNumber → Option WholeNumber → Result BitmapBox FontKind
-box_with (Some w) (Some h) (Some x) (Some y) = box_of w h x y
-box_with _ _ _ _ = Err Field
+-- the numbers of a box, if all four are there
+abbrev pub numbers_of : Option WholeNumber → Option WholeNumber → Option WholeNumber → Option WholeNumber → Option BoxNumbers
+numbers_of (Some w) (Some h) (Some x) (Some y) = Some (record { width = w; height = h; xoff = x; yoff = y })
+numbers_of _ _ _ _ = None
 
--- the box of a line: the four words after its keyword
-abbrev pub box_at : List ℕ → Result BitmapBox FontKind
-box_at line = box_with (number_at 1 line) (number_at 2 line) (number_at 3 line) (number_at 4 line)
+-- those of a line: the four words after its keyword
+abbrev pub numbers_at : List ℕ → Option BoxNumbers
+numbers_at line = numbers_of (number_at 1 line) (number_at 2 line) (number_at 3 line) (number_at 4 line)
+
+-- the box of these numbers
+abbrev pub box_with : ℕ → Option BoxNumbers → Result BitmapBox FontKind
+box_with most (Some b) = box_of most b
+box_with most None = Err Field
+
+-- the box of a line, with sides and offsets of at most so many pixels
+abbrev pub box_at : ℕ → List ℕ → Result BitmapBox FontKind
+box_at most line = box_with most (numbers_at line)
 
 -- the encoding that a number is: no character has a negative one, and none has one of 2^32 or more
 abbrev pub encoding_of : Option WholeNumber → Result Encoding FontKind

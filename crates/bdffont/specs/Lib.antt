@@ -6,5 +6,6 @@ pub mod Ink
 pub mod Keyword
 pub mod Number
 pub mod Sections
+pub mod Side
 pub mod Words
 pub mod Writing

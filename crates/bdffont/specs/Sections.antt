@@ -1,5 +1,5 @@
 -- What each line of a BDF file says, by where it stands (Glyph Bitmap Distribution Format 2.1; docs/FILES.md, "Lines of a font").
-use Rattle.std.specs.Prelude.{◌≡◌, ℕ, ◌+◌, ◌-◌, Bool, true, false, not, ◌==◌, ◌&&◌, nat_lt, if◌then◌else◌, List, [], ◌∷◌, ◌++◌, Option, None, Some, Result, Ok, Err}
+use Rattle.std.specs.Prelude.{◌≡◌, ℕ, ◌+◌, ◌-◌, max, Bool, true, false, not, ◌==◌, ◌&&◌, nat_lt, if◌then◌else◌, List, [], ◌∷◌, ◌++◌, Option, None, Some, Result, Ok, Err}
 use Rattle.mapdefs.specs.declared.font.BitmapBox.{BitmapBox}
 use Rattle.mapdefs.specs.declared.limits.TheConstants.{MAX_GLYPHS}
 use Rattle.bdffont.specs.declared.fault.FontKind.{FontKind}
@@ -20,6 +20,7 @@ use Rattle.bdffont.specs.declared.step.LineError.TheVariants.{Fault, NoMemory}
 use Rattle.bdffont.specs.Bits.{is_row, row_pixels}
 use Rattle.bdffont.specs.Fields.{box_at, encoding_at, advance_at, count_at}
 use Rattle.bdffont.specs.Keyword.{keyword_in}
+use Rattle.bdffont.specs.Side.{box_side}
 use Rattle.mapdefs.specs.Outcome.{and_then}
 
 -- a glyph begins, if there is room for a further one; its header has named no field
@@ -31,25 +32,26 @@ opened d =
 
 -- the font ends, if as many glyphs have begun as CHARS announces
 abbrev pub closed : Draft → Result Section FontKind
-closed d = if d.started == d.count then Ok (Ended (record { bounds = d.bounds; glyphs = d.glyphs })) else Err Count
+closed d = if d.started == d.count then Ok (Ended (record { side = d.side; bounds = d.bounds; glyphs = d.glyphs })) else Err Count
 
 -- the font of a header that has both its fields
-abbrev pub draft_with : Option BitmapBox → Option ℕ → Result Draft FontKind
-draft_with (Some bounds) (Some count) = Ok (record { bounds = bounds; count = count; started = 0; glyphs = [] })
-draft_with _ _ = Err Field
+abbrev pub draft_with : ℕ → Option BitmapBox → Option ℕ → Result Draft FontKind
+draft_with most (Some bounds) (Some count) =
+    Ok (record { most = most; side = box_side bounds; bounds = bounds; count = count; started = 0; glyphs = [] })
+draft_with most _ _ = Err Field
 
 abbrev pub draft_of : FontHeader → Result Draft FontKind
-draft_of h = draft_with h.bounds h.count
+draft_of h = draft_with h.most h.bounds h.count
 
 -- the first line
-abbrev pub before : Option Keyword → Result Section FontKind
-before (Some word.StartFont) = Ok (InHeader (record { bounds = None; count = None }))
-before _ = Err Start
+abbrev pub before : ℕ → Option Keyword → Result Section FontKind
+before most (Some word.StartFont) = Ok (InHeader (record { most = most; bounds = None; count = None }))
+before most _ = Err Start
 
 -- a line of the font's header
 abbrev pub in_header : FontHeader → Option Keyword → List ℕ → Result Section FontKind
 in_header h None line = Ok (InHeader h)
-in_header h (Some word.FontBoundingBox) line = and_then (box_at line) (λ b. Ok (InHeader (record h { bounds = Some b })))
+in_header h (Some word.FontBoundingBox) line = and_then (box_at h.most line) (λ b. Ok (InHeader (record h { bounds = Some b })))
 in_header h (Some word.Chars) line = and_then (count_at line) (λ n. Ok (InHeader (record h { count = Some n })))
 in_header h (Some word.StartChar) line = and_then (draft_of h) opened
 in_header h (Some word.EndFont) line = and_then (draft_of h) closed
@@ -69,8 +71,8 @@ encoded g line = and_then (encoding_at line) (λ e. Ok (record g { encoding = So
 abbrev pub advanced : GlyphHeader → List ℕ → Result GlyphHeader FontKind
 advanced g line = and_then (advance_at line) (λ a. Ok (record g { advance = Some a }))
 
-abbrev pub bounded : GlyphHeader → List ℕ → Result GlyphHeader FontKind
-bounded g line = and_then (box_at line) (λ b. Ok (record g { bounds = Some b }))
+abbrev pub bounded : ℕ → GlyphHeader → List ℕ → Result GlyphHeader FontKind
+bounded most g line = and_then (box_at most line) (λ b. Ok (record g { bounds = Some b }))
 
 -- before the rows of a glyph whose header has all its fields, all rows remain
 abbrev pub rows_with : Option Encoding → Option ℕ → Option BitmapBox → Result GlyphRows FontKind
@@ -85,15 +87,15 @@ abbrev pub in_glyph : Draft → GlyphHeader → Option Keyword → List ℕ → 
 in_glyph d g None line = Ok (InGlyph d g)
 in_glyph d g (Some word.Encoding) line = and_then (encoded g line) (λ next. Ok (InGlyph d next))
 in_glyph d g (Some word.Dwidth) line = and_then (advanced g line) (λ next. Ok (InGlyph d next))
-in_glyph d g (Some word.Bbx) line = and_then (bounded g line) (λ next. Ok (InGlyph d next))
+in_glyph d g (Some word.Bbx) line = and_then (bounded d.most g line) (λ next. Ok (InGlyph d next))
 in_glyph d g (Some word.Bitmap) line = and_then (rows_of g) (λ rows. Ok (InRows d rows))
 in_glyph d g (Some _) line = Err Field
 
--- the font with a glyph whose rows are read; one that is no character is dropped
+-- the font with a glyph whose rows are read, and with its side; one that is no character is dropped
 abbrev pub with_encoded : Draft → GlyphRows → Encoding → Draft
 with_encoded d r NoCharacter = d
 with_encoded d r (Character n) =
-    record d { glyphs = d.glyphs ++ record { encoding = n; advance = r.advance; bounds = r.bounds; rows = r.pixels } ∷ [] }
+    record d { side = max d.side (box_side r.bounds); glyphs = d.glyphs ++ record { encoding = n; advance = r.advance; bounds = r.bounds; rows = r.pixels } ∷ [] }
 
 abbrev pub with_glyph : Draft → GlyphRows → Draft
 with_glyph d r = with_encoded d r r.encoding
@@ -114,7 +116,7 @@ in_rows d r line =
 
 -- the section after a line that is none of the properties; after ENDFONT all lines are skipped
 abbrev pub section_after : Section → List ℕ → Result Section FontKind
-section_after Before line = before (keyword_in line)
+section_after (Before most) line = before most (keyword_in line)
 section_after (InHeader h) line = in_header h (keyword_in line) line
 section_after (Between d) line = between d (keyword_in line)
 section_after (InGlyph d g) line = in_glyph d g (keyword_in line) line
@@ -137,9 +139,9 @@ abbrev pub closes_properties : Option Keyword → Bool
 closes_properties (Some word.EndProperties) = true
 closes_properties _ = false
 
--- the state before the first line
-abbrev pub start : ReaderState
-start = record { section = Before; in_properties = false }
+-- the state before the first line, with boxes of sides and offsets of at most so many pixels
+abbrev pub start : ℕ → ReaderState
+start most = record { section = Before most; in_properties = false }
 
 -- the state after a line: the properties are skipped, and every other line counts by its section
 abbrev pub says : ReaderState → List ℕ → Result ReaderState FontKind

@@ -5,7 +5,7 @@ use Rattle.std.specs.List.{flat_map}
 use Rattle.mapdefs.specs.declared.font.BitmapBox.{BitmapBox}
 use Rattle.mapdefs.specs.declared.font.FontFields.{FontFields}
 use Rattle.mapdefs.specs.declared.font.Glyph.{Glyph}
-use Rattle.mapdefs.specs.declared.limits.TheConstants.{MAX_GLYPH_SIDE, MAX_GLYPHS}
+use Rattle.mapdefs.specs.declared.limits.TheConstants.{MAX_FINE_GLYPH_SIDE, MAX_GLYPHS}
 use Rattle.bdffont.specs.declared.keyword.Keyword.{Keyword}
 use Rattle.bdffont.specs.declared.keyword.Keyword.TheVariants.{StartFont, FontBoundingBox, Chars, StartChar, Encoding, Dwidth, Bbx, Bitmap, EndChar, EndFont}
 use Rattle.bdffont.specs.declared.section.ReaderState.{ReaderState}
@@ -15,6 +15,7 @@ use Rattle.bdffont.specs.Bits.{filled, written}
 use Rattle.bdffont.specs.File.{reads}
 use Rattle.bdffont.specs.Keyword.{keyword_in, spelling}
 use Rattle.bdffont.specs.Sections.{start}
+use Rattle.bdffont.specs.Side.{side_of}
 
 -- a whole number: its digits, after a minus if it is below 0
 abbrev pub whole : ℤ → List ℕ
@@ -46,28 +47,31 @@ font_lines up f =
     line_of StartFont [] ∷ line_of FontBoundingBox (box_words f.bounds) ∷ line_of Chars (decimal (length f.glyphs) ∷ []) ∷ (flat_map (glyph_lines up) f.glyphs ++ line_of EndFont [] ∷ [])
 
 -- a box can be written: its sides and its offsets are within the limit
-pub record IsBox (b : BitmapBox) : Type 0 where
-  pub columns : b.width ≤ MAX_GLYPH_SIDE
-  pub rows : b.height ≤ MAX_GLYPH_SIDE
-  pub right : unsigned_abs b.xoff ≤ MAX_GLYPH_SIDE
-  pub up : unsigned_abs b.yoff ≤ MAX_GLYPH_SIDE
+pub record IsBox (most : ℕ) (b : BitmapBox) : Type 0 where
+  pub columns : b.width ≤ most
+  pub rows : b.height ≤ most
+  pub right : unsigned_abs b.xoff ≤ most
+  pub up : unsigned_abs b.yoff ≤ most
 
 -- so can a glyph: it is one of a character, and has a truth value for each pixel of its box
-pub record IsGlyph (g : Glyph) : Type 0 where
+pub record IsGlyph (most : ℕ) (g : Glyph) : Type 0 where
   pub encoding : g.encoding < 2 ^ 32
   pub advance : g.advance < 256
-  pub bounds : IsBox g.bounds
+  pub bounds : IsBox most g.bounds
   pub area : length g.rows ≡ g.bounds.height * g.bounds.width
 
--- and a font
-pub record IsWritable (f : FontFields) : Type 0 where
-  pub bounds : IsBox f.bounds
+-- and a font, whose side is the greatest of these
+pub record IsWritable (most : ℕ) (f : FontFields) : Type 0 where
+  pub bounds : IsBox most f.bounds
   pub count : length f.glyphs ≤ MAX_GLYPHS
-  pub each : All IsGlyph f.glyphs
+  pub each : All (IsGlyph most) f.glyphs
+  pub side : f.side ≡ side_of f.bounds f.glyphs
 
 -- the law that a font that is written out is read as that font
 abbrev pub WrittenFontIsRead : Type 0
-WrittenFontIsRead = (f : FontFields) (up line : ℕ) → up < 2 ^ 32 → IsWritable f → reads start line (font_lines up f) ≡ Ok f
+WrittenFontIsRead =
+    (most : ℕ) (f : FontFields) (up line : ℕ) → most ≤ MAX_FINE_GLYPH_SIDE → up < 2 ^ 32 → IsWritable most f →
+    reads (start most) line (font_lines up f) ≡ Ok f
 
 -- lines that begin with no keyword may stand in a section: in the header, between glyphs, in a glyph's header, and after the font
 abbrev pub allows_others : Section → Bool
@@ -75,7 +79,7 @@ allows_others (InHeader h) = true
 allows_others (Between d) = true
 allows_others (InGlyph d g) = true
 allows_others (Ended font) = true
-allows_others Before = false
+allows_others (Before most) = false
 allows_others (InRows d r) = false
 
 -- the law that a line whose first word is no keyword, in such a section, changes nothing

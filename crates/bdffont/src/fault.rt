@@ -19,8 +19,9 @@ pub enum FontKind {
     /// The glyphs are not as many as CHARS says. The line is that of ENDFONT.
     #[error("another number of glyphs than CHARS says")]
     Count,
-    /// A box beyond `MAX_GLYPH_SIDE` in a side or an offset, or a glyph more than `MAX_GLYPHS`.
-    #[error("a box beyond 64 pixels, or more than 65,536 glyphs")]
+    /// A box beyond the greatest side in a side or an offset, or a glyph more than `MAX_GLYPHS`. The greatest side is
+    /// `MAX_GLYPH_SIDE`, or what `read_within` is told.
+    #[error("a box that is too large, or more than 65,536 glyphs")]
     Limit,
     /// The file ends before ENDFONT. The line is the one after the last.
     #[error("the file ends before ENDFONT")]

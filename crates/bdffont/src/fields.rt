@@ -1,11 +1,12 @@
 ghost use Rattle.std.specs.Prelude.{◌≡◌, ◌≤◌};
 ghost use Rattle.geom.specs.Decimal.{signed};
-ghost use Rattle.mapdefs.specs.declared.limits.TheConstants.{MAX_GLYPH_SIDE};
-ghost use Rattle.bdffont.specs.Fields.{is_small, box_of, box_at, encoding_at, advance_at, count_at};
+ghost use Rattle.mapdefs.specs.declared.limits.TheConstants.{MAX_FINE_GLYPH_SIDE};
+ghost use Rattle.bdffont.specs.Fields.{is_small, are_small, box_of, numbers_at, box_at, encoding_at, advance_at, count_at};
 
 use crate::fault::FontKind;
 use crate::number::{WholeNumber, number_at};
-use mapdefs::{BitmapBox, MAX_GLYPH_SIDE};
+use crate::small_box::SmallBox;
+use mapdefs::BitmapBox;
 
 /// The encoding of a glyph.
 #[derive(Clone, Copy)]
@@ -17,57 +18,78 @@ pub enum Encoding {
 }
 
 // Whether a side or an offset is within its limit.
-fn is_small(number: WholeNumber) -> bool
-    ensures { result ≡ is_small number }
+fn is_small(most: u8, number: WholeNumber) -> bool
+    ensures { result ≡ is_small most number }
 {
-    number.size <= u64::from(MAX_GLYPH_SIDE)
+    number.size <= u64::from(most)
 }
 
 // A number as an offset.
-fn offset_of(number: WholeNumber) -> i8
-    requires { number.size ≤ MAX_GLYPH_SIDE }
+fn offset_of(number: WholeNumber) -> i16
+    requires { number.size ≤ MAX_FINE_GLYPH_SIDE }
     ensures { result ≡ signed number.is_negative number.size }
 {
-    let size = number.size as i8;
+    let size = number.size as i16;
     if number.is_negative { -size } else { size }
 }
 
-// The box of a width, a height and two offsets.
-fn box_of(
+// The numbers of a box.
+#[derive(Clone, Copy)]
+struct BoxNumbers {
     width: WholeNumber,
     height: WholeNumber,
     xoff: WholeNumber,
     yoff: WholeNumber,
-) -> Result<BitmapBox, FontKind>
-    ensures { result ≡ box_of width height xoff yoff }
+}
+
+// Whether all four are within their limit.
+fn are_small(most: u8, numbers: BoxNumbers) -> bool
+    ensures { result ≡ are_small most numbers }
 {
-    if width.is_negative || height.is_negative {
+    is_small(most, numbers.width)
+        && is_small(most, numbers.height)
+        && is_small(most, numbers.xoff)
+        && is_small(most, numbers.yoff)
+}
+
+// The box of a width, a height and two offsets, with this limit.
+fn box_of(most: u8, numbers: BoxNumbers) -> Result<SmallBox, FontKind>
+    ensures { result ≡ box_of most numbers }
+{
+    if numbers.width.is_negative || numbers.height.is_negative {
         return Err(FontKind::Field);
     }
-    if is_small(width) && is_small(height) && is_small(xoff) && is_small(yoff) {
-        Ok(BitmapBox {
-            width: width.size as u8,
-            height: height.size as u8,
-            xoff: offset_of(xoff),
-            yoff: offset_of(yoff),
-        })
+    if are_small(most, numbers) {
+        Ok(SmallBox::new(BitmapBox {
+            width: numbers.width.size as u8,
+            height: numbers.height.size as u8,
+            xoff: offset_of(numbers.xoff),
+            yoff: offset_of(numbers.yoff),
+        }))
     } else {
         Err(FontKind::Limit)
     }
 }
 
-/// The box that the four words after the keyword give.
-pub fn box_at(line: &[u8]) -> Result<BitmapBox, FontKind>
-    ensures { result ≡ box_at line.now }
+// The numbers of a line's box, if all four are there.
+fn numbers_at(line: &[u8]) -> Option<BoxNumbers>
+    ensures { result ≡ numbers_at line.now }
 {
-    match (
-        number_at(line, 1),
-        number_at(line, 2),
-        number_at(line, 3),
-        number_at(line, 4),
-    ) {
-        (Some(width), Some(height), Some(xoff), Some(yoff)) => box_of(width, height, xoff, yoff),
-        _ => Err(FontKind::Field),
+    Some(BoxNumbers {
+        width: number_at(line, 1)?,
+        height: number_at(line, 2)?,
+        xoff: number_at(line, 3)?,
+        yoff: number_at(line, 4)?,
+    })
+}
+
+/// The box that the four words after the keyword give, with sides and offsets of at most so many pixels.
+pub fn box_at(most: u8, line: &[u8]) -> Result<SmallBox, FontKind>
+    ensures { result ≡ box_at most line.now }
+{
+    match numbers_at(line) {
+        Some(numbers) => box_of(most, numbers),
+        None => Err(FontKind::Field),
     }
 }
 

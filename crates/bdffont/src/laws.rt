@@ -1,7 +1,7 @@
 //! Laws of the definitions. A law is a function without arguments whose contract states it.
 
 ghost use Rattle.bdffont.specs.Bits.{WrittenRowIsRead};
-ghost use Rattle.bdffont.specs.File.{FileHasOneFont};
+ghost use Rattle.bdffont.specs.File.{FileHasOneFont, SideIsOfBoxes};
 ghost use Rattle.bdffont.specs.Ink.{InkIsOfACharacter};
 ghost use Rattle.bdffont.specs.Writing.{OtherLinesAreSkipped, WrittenFontIsRead};
 
@@ -11,8 +11,8 @@ pub fn written_row_is_read()
     ensures { WrittenRowIsRead }
 {}
 
-/// A font that is written out is read as that font: its box, the number of its glyphs, and of each glyph STARTCHAR,
-/// ENCODING, DWIDTH, BBX, BITMAP, its rows and ENDCHAR.
+/// A font that is written out is read as that font, where its boxes are within the side that is let through: its box, the
+/// number of its glyphs, and of each glyph STARTCHAR, ENCODING, DWIDTH, BBX, BITMAP, its rows and ENDCHAR.
 pub fn written_font_is_read()
     ensures { WrittenFontIsRead }
 {}
@@ -26,6 +26,12 @@ pub fn other_lines_are_skipped()
 /// glyph of the file with it, are the same.
 pub fn file_has_one_font()
     ensures { FileHasOneFont }
+{}
+
+/// The side of a font that is read is the greatest side or offset that its box has, or a glyph of the file that is a
+/// character, also one whose encoding another one has before it.
+pub fn side_is_of_boxes()
+    ensures { SideIsOfBoxes }
 {}
 
 /// A text has ink where the glyph of one of its characters has, the pen having advanced by those

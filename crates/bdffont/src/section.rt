@@ -1,10 +1,13 @@
 use crate::fields::Encoding;
+use crate::small_box::SmallBox;
 use mapdefs::{BitmapBox, FontFields, Glyph, Items};
 
 /// The fields of a font that its header has named.
 #[derive(Clone, Copy)]
 pub struct FontHeader {
-    pub bounds: Option<BitmapBox>,
+    /// The greatest side and offset that a box may have.
+    pub most: u8,
+    pub bounds: Option<SmallBox>,
     /// What CHARS says.
     pub count: Option<u64>,
 }
@@ -12,6 +15,10 @@ pub struct FontHeader {
 /// A font as far as it is read: the fields of its header, and its glyphs.
 #[derive(Drop)]
 pub struct Draft {
+    /// The greatest side and offset that a box may have.
+    pub most: u8,
+    /// The greatest one that the font's box and the glyphs have.
+    pub side: u8,
     pub bounds: BitmapBox,
     /// How many glyphs CHARS announces.
     pub count: u64,
@@ -26,7 +33,7 @@ pub struct Draft {
 pub struct GlyphHeader {
     pub encoding: Option<Encoding>,
     pub advance: Option<u8>,
-    pub bounds: Option<BitmapBox>,
+    pub bounds: Option<SmallBox>,
 }
 
 /// A glyph as far as its rows are read.
@@ -34,7 +41,7 @@ pub struct GlyphHeader {
 pub struct GlyphRows {
     pub encoding: Encoding,
     pub advance: u8,
-    pub bounds: BitmapBox,
+    pub bounds: SmallBox,
     /// The pixels of the rows that are read.
     pub pixels: Items<bool>,
     /// How many rows remain.
@@ -44,8 +51,8 @@ pub struct GlyphRows {
 /// Where a line stands.
 #[derive(Drop)]
 pub enum Section {
-    /// Before STARTFONT.
-    Before,
+    /// Before STARTFONT. Boxes may have this greatest side and offset.
+    Before(u8),
     /// In the font's header, before the first glyph.
     InHeader(FontHeader),
     /// Between two glyphs, or after the last.

@@ -63,6 +63,7 @@ fn closed(draft: Draft) -> Result<Section, FontKind>
 {
     if draft.started as u64 == draft.count {
         Ok(Section::Ended(FontFields {
+            side: draft.side,
             bounds: draft.bounds,
             glyphs: draft.glyphs,
         }))
@@ -77,7 +78,9 @@ fn draft_of(header: FontHeader, alloc: Global) -> Result<Draft, FontKind>
 {
     match (header.bounds, header.count) {
         (Some(bounds), Some(count)) => Ok(Draft {
-            bounds,
+            most: header.most,
+            side: bounds.side(),
+            bounds: bounds.get(),
             count,
             started: 0,
             glyphs: Items::new(alloc),
@@ -87,11 +90,12 @@ fn draft_of(header: FontHeader, alloc: Global) -> Result<Draft, FontKind>
 }
 
 // The section after the first line.
-fn before(keyword: Option<Keyword>) -> Result<Section, FontKind>
-    ensures { result ≡ before keyword }
+fn before(most: u8, keyword: Option<Keyword>) -> Result<Section, FontKind>
+    ensures { result ≡ before most keyword }
 {
     match keyword {
         Some(Keyword::StartFont) => Ok(Section::InHeader(FontHeader {
+            most,
             bounds: None,
             count: None,
         })),
@@ -106,7 +110,7 @@ fn in_header(header: FontHeader, line: &[u8], alloc: Global) -> Result<Section, 
     match Keyword::at(line) {
         None => Ok(Section::InHeader(header)),
         Some(Keyword::FontBoundingBox) => {
-            let bounds = Some(box_at(line)?);
+            let bounds = Some(box_at(header.most, line)?);
             Ok(Section::InHeader(FontHeader { bounds, ..header }))
         }
         Some(Keyword::Chars) => {
@@ -141,7 +145,7 @@ fn rows_of(header: GlyphHeader, alloc: Global) -> Result<GlyphRows, FontKind>
             advance,
             bounds,
             pixels: Items::new(alloc),
-            left: bounds.height,
+            left: bounds.get().height,
         }),
         _ => Err(FontKind::Field),
     }
@@ -164,10 +168,10 @@ fn advanced(header: GlyphHeader, line: &[u8]) -> Result<GlyphHeader, FontKind>
 }
 
 // The header of a glyph with its box.
-fn bounded(header: GlyphHeader, line: &[u8]) -> Result<GlyphHeader, FontKind>
-    ensures { result ≡ bounded header line.now }
+fn bounded(most: u8, header: GlyphHeader, line: &[u8]) -> Result<GlyphHeader, FontKind>
+    ensures { result ≡ bounded most header line.now }
 {
-    let bounds = Some(box_at(line)?);
+    let bounds = Some(box_at(most, line)?);
     Ok(GlyphHeader { bounds, ..header })
 }
 
@@ -184,7 +188,10 @@ fn in_glyph(
         None => Ok(Section::InGlyph(draft, header)),
         Some(Keyword::Encoding) => Ok(Section::InGlyph(draft, encoded(header, line)?)),
         Some(Keyword::Dwidth) => Ok(Section::InGlyph(draft, advanced(header, line)?)),
-        Some(Keyword::Bbx) => Ok(Section::InGlyph(draft, bounded(header, line)?)),
+        Some(Keyword::Bbx) => {
+            let next = bounded(draft.most, header, line)?;
+            Ok(Section::InGlyph(draft, next))
+        }
         Some(Keyword::Bitmap) => Ok(Section::InRows(draft, rows_of(header, alloc)?)),
         Some(_) => Err(FontKind::Field),
     }
@@ -198,10 +205,11 @@ fn with_glyph(draft: Draft, rows: GlyphRows) -> Result<Draft, AllocError>
         Encoding::NoCharacter => Ok(draft),
         Encoding::Character(encoding) => {
             let mut draft = draft;
+            draft.side = draft.side.max(rows.bounds.side());
             draft.glyphs.push(Glyph {
                 encoding,
                 advance: rows.advance,
-                bounds: rows.bounds,
+                bounds: rows.bounds.get(),
                 rows: rows.pixels,
             })?;
             Ok(draft)
@@ -215,11 +223,12 @@ fn in_rows(draft: Draft, rows: GlyphRows, line: &[u8]) -> Result<Section, LineEr
     ensures stop { IfErr result (λ stop. IsStop stop (in_rows draft rows line.now)) }
 {
     if rows.left > 0 {
-        if !is_row(line, rows.bounds.width) {
+        let width = rows.bounds.get().width;
+        if !is_row(line, width) {
             return Err(LineError::Fault(FontKind::Row));
         }
         let mut rows = rows;
-        push_row(&mut rows.pixels, line, rows.bounds.width)?;
+        push_row(&mut rows.pixels, line, width)?;
         rows.left -= 1;
         Ok(Section::InRows(draft, rows))
     } else {
@@ -236,7 +245,7 @@ fn section_after(section: Section, line: &[u8], alloc: Global) -> Result<Section
     ensures stop { IfErr result (λ stop. IsStop stop (section_after section line.now)) }
 {
     match section {
-        Section::Before => Ok(before(Keyword::at(line))?),
+        Section::Before(most) => Ok(before(most, Keyword::at(line))?),
         Section::InHeader(header) => Ok(in_header(header, line, alloc)?),
         Section::Between(draft) => Ok(between(draft, Keyword::at(line))?),
         Section::InGlyph(draft, header) => Ok(in_glyph(draft, header, line, alloc)?),
@@ -256,12 +265,12 @@ fn has_properties(section: &Section) -> bool
 }
 
 impl ReaderState {
-    /// Before the first line.
-    pub fn start() -> ReaderState
-        ensures { result ≡ start }
+    /// Before the first line, with boxes of sides and offsets of at most so many pixels.
+    pub fn start(most: u8) -> ReaderState
+        ensures { result ≡ start most }
     {
         ReaderState {
-            section: Section::Before,
+            section: Section::Before(most),
             in_properties: false,
         }
     }

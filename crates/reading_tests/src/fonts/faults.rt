@@ -180,7 +180,7 @@ const VALUES: &str = "\
 2 a field that is missing, out of place or can't be read|1
 3 a row of a glyph with the wrong digits, or rows with no ENDCHAR after them|2
 4 another number of glyphs than CHARS says|3
-5 a box beyond 64 pixels, or more than 65,536 glyphs|4
+5 a box that is too large, or more than 65,536 glyphs|4
 6 the file ends before ENDFONT|5
 line 7: another number of glyphs than CHARS says|fault
 line 7: another number of glyphs than CHARS says; out of memory|errors";

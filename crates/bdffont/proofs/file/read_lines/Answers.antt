@@ -1,13 +1,13 @@
 use Rattle.std.proofs.Common.{arith, sym, ◌∙◌}
 use Rattle.std.specs.Str.Lines.{lines}
-use Rattle.bdffont.specs.File.{file_of}
+use Rattle.bdffont.specs.File.{file_within}
 use Rattle.bdffont.proofs.Reading.{reads-next, reads-stop, reads-end}
 use Rattle.bdffont.proofs.file.read_lines.Goals as goal
 
 pub returns-in-Err-clause-error : goal.returns-in-Err-clause-error
 returns-in-Err-clause-error c =
     rw c.error_on.ensures (reads-stop c.loop-text.state c.in-Err.stop c.loop-text.line c.in-Some.text.now (lines c.in-Some.after.now) (lines c.loop-text.rest.now)
-    (file_of c.args.bytes.now) c.loop-text.invariant.same c.in-Some.ensures.lines c.in-Err.ensures.stop)
+    (file_within c.args.most c.args.bytes.now) c.loop-text.invariant.same c.in-Some.ensures.lines c.in-Err.ensures.stop)
 
 pub loop-text-preserved : goal.loop-text-preserved
 loop-text-preserved c = record {
