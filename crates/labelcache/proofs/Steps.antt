@@ -83,7 +83,7 @@ pub passes-more : (s : Setting) (labels : List Placed) (l : Placed) (n : ℕ) (c
     Passes s labels n c at → Passes s (labels ++ l ∷ []) n c at
 passes-more s labels l n c at not p = record {
   shown = p.shown;
-  clear = λ e. All-push (λ label. IsTriedBefore s.candidates label.number n → IsClear (taken_at s.page.font c at) label) labels l (p.clear e) (λ t. absurd (not t));
+  clear = λ e. All-push (λ label. IsTriedBefore s.candidates label.number n → IsClear (taken_at s.page.fonts c at) label) labels l (p.clear e) (λ t. absurd (not t));
   apart = λ e. All-push (λ label. IsTriedBefore s.candidates label.number n → IsApart s.candidates c label) labels l (p.apart e) (λ t. absurd (not t));
 }
 
@@ -185,7 +185,7 @@ step-adds s p n c old new t is e a = rw (a.labels, a.candidates) (record {
           record {
             candidate = st.candidate;
             is = st.is;
-            first = first-map (Passes s old.labels label.number st.candidate) (Passes s (old.labels ++ a.label ∷ []) label.number st.candidate) (corners s.page.font st.candidate) label.at
+            first = first-map (Passes s old.labels label.number st.candidate) (Passes s (old.labels ++ a.label ∷ []) label.number st.candidate) (corners s.page.fonts st.candidate) label.at
                 (λ z. passes-more s old.labels a.label label.number st.candidate z (λ tried. tried-asym s.candidates _ _ (rw a.number at tried) first))
                 (λ z. passes-less s old.labels a.label label.number st.candidate z) st.first;
             taken = st.taken;
@@ -197,7 +197,7 @@ step-adds s p n c old new t is e a = rw (a.labels, a.candidates) (record {
           rw same (record {
             candidate = c;
             is = rw a.number is;
-            first = subst (λ m. IsFirst (Passes s (old.labels ++ a.label ∷ []) m c) (corners s.page.font c) a.label.at) (sym a.number) (first-map (Fits s.page old c) (Passes s (old.labels ++ a.label ∷ []) n c) (corners s.page.font c) a.label.at
+            first = subst (λ m. IsFirst (Passes s (old.labels ++ a.label ∷ []) m c) (corners s.page.fonts c) a.label.at) (sym a.number) (first-map (Fits s.page old c) (Passes s (old.labels ++ a.label ∷ []) n c) (corners s.page.fonts c) a.label.at
                 (λ z fits. passes-more s old.labels a.label n c z (λ tried. tried-irrefl s.candidates _ _ a.number tried) (fits-passes s old n c z t.candidates fits))
                 (λ z passes. passes-fits s old n c z t.candidates before (passes-less s old.labels a.label n c z passes)) a.place.first);
             taken = a.place.box;

@@ -93,12 +93,12 @@ same-label s a b k x y p q there there' agree e =
     (λ (ne : i ≡ k → ⊥). absurd (tried-asym s.candidates _ _ (rw (← same) at (order-at s v k i w l pv (omega (arith, ge, ne)) isw is)) tried))
     (cases_eq i k))
     (cases_lt i k) in
-    let f' : IsFirst (Passes s b x.number st.candidate) (corners s.page.font st.candidate) y.at = rw (← c, ← e) at st'.first in
-    let at : x.at ≡ y.at = first-same (Passes s a x.number st.candidate) (Passes s b x.number st.candidate) (corners s.page.font st.candidate) x.at y.at
+    let f' : IsFirst (Passes s b x.number st.candidate) (corners s.page.fonts st.candidate) y.at = rw (← c, ← e) at st'.first in
+    let at : x.at ≡ y.at = first-same (Passes s a x.number st.candidate) (Passes s b x.number st.candidate) (corners s.page.fonts st.candidate) x.at y.at
     (λ z. passes-move s a b x.number st.candidate z (early a b x y p there there' e q agree))
     (λ z. passes-move s b a x.number st.candidate z (early' e))
     st.first f' in
-    let taken : x.taken ≡ y.taken = st.taken ∙ ap (λ (z : PixelValue). taken_at s.page.font st.candidate z) at ∙ ap (λ (z : CandidateValue). taken_at s.page.font z y.at) c ∙ sym st'.taken in
+    let taken : x.taken ≡ y.taken = st.taken ∙ ap (λ (z : PixelValue). taken_at s.page.fonts st.candidate z) at ∙ ap (λ (z : CandidateValue). taken_at s.page.fonts z y.at) c ∙ sym st'.taken in
     same-parts x y e at taken
   where
     early' : x.number ≡ y.number → (i : ℕ) (l : Placed) → slice_get a i ≡ Some l → IsTriedBefore s.candidates l.number x.number → slice_get b i ≡ Some l

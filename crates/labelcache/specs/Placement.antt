@@ -9,11 +9,11 @@ use Rattle.labelcache.specs.declared.cache.Placed.{Placed}
 use Rattle.labelcache.specs.Candidate.{CandidateValue, IsTriedBefore, distance_of, square, squared_distance}
 use Rattle.labelcache.specs.LabelBox.{corners, taken_at}
 
--- what labels are placed on: a picture of that width and height, and the font of its texts
+-- what labels are placed on: a picture of that width and height, and the fonts of its texts
 pub record PageValue : Type 0 where
   pub width : ℕ
   pub height : ℕ
-  pub font : FontFields
+  pub fonts : List FontFields
 
 -- labels may be placed on a picture of that width and height
 pub record IsPage (width height : ℕ) : Type 0 where
@@ -40,8 +40,8 @@ IsApart candidates c label = (other : CandidateValue) → slice_get candidates l
 -- a candidate's text may have its corner at a pixel, by its label's tests against the labels that are tried before it:
 -- without PARTIALS its box lies in the picture, and without FORCE it is clear of those labels and far enough from them
 pub record Passes (s : Setting) (labels : List Placed) (n : ℕ) (c : CandidateValue) (at : PixelValue) : Type 0 where
-  pub shown : c.label.partials ≡ false → IsInside (taken_at s.page.font c at) s.page.width s.page.height
-  pub clear : c.label.force ≡ false → All (λ label. IsTriedBefore s.candidates label.number n → IsClear (taken_at s.page.font c at) label) labels
+  pub shown : c.label.partials ≡ false → IsInside (taken_at s.page.fonts c at) s.page.width s.page.height
+  pub clear : c.label.force ≡ false → All (λ label. IsTriedBefore s.candidates label.number n → IsClear (taken_at s.page.fonts c at) label) labels
   pub apart : c.label.force ≡ false → All (λ label. IsTriedBefore s.candidates label.number n → IsApart s.candidates c label) labels
 
 -- the first element for which P holds
@@ -55,12 +55,12 @@ pub record IsFirst {X : Type 0} (P : X → Type 0) (xs : List X) (x : X) : Type 
 pub record Stands (s : Setting) (labels : List Placed) (label : Placed) : Type 0 where
   pub candidate : CandidateValue
   pub is : slice_get s.candidates label.number ≡ Some candidate
-  pub first : IsFirst (Passes s labels label.number candidate) (corners s.page.font candidate) label.at
-  pub taken : label.taken ≡ taken_at s.page.font candidate label.at
+  pub first : IsFirst (Passes s labels label.number candidate) (corners s.page.fonts candidate) label.at
+  pub taken : label.taken ≡ taken_at s.page.fonts candidate label.at
 
 -- none of a candidate's corners passes
 abbrev pub IsShutOut : Setting → List Placed → ℕ → CandidateValue → Type 0
-IsShutOut s labels n c = (i : ℕ) (at : PixelValue) → slice_get (corners s.page.font c) i ≡ Some at → Passes s labels n c at → ⊥
+IsShutOut s labels n c = (i : ℕ) (at : PixelValue) → slice_get (corners s.page.fonts c) i ≡ Some at → Passes s labels n c at → ⊥
 
 -- a list of labels has none with that number
 abbrev pub HasNone : List Placed → ℕ → Type 0

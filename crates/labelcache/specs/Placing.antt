@@ -27,12 +27,12 @@ pub record IsFree (page : PageValue) (label : LabelFields) (labels : List Placed
 
 -- a candidate's box is free where its text's corner is a pixel
 abbrev pub IsFreeAt : PageValue → List Placed → CandidateValue → PixelValue → Type 0
-IsFreeAt page labels c at = IsFree page c.label labels (taken_at page.font c at)
+IsFreeAt page labels c at = IsFree page c.label labels (taken_at page.fonts c at)
 
 -- the first of some corners where the box is free, with the box there
 pub record IsFirstFree (page : PageValue) (labels : List Placed) (c : CandidateValue) (pixels : List PixelValue) (at : PixelValue) (taken : PixelBoxValue) : Type 0 where
   pub first : IsFirst (IsFreeAt page labels c) pixels at
-  pub box : taken ≡ taken_at page.font c at
+  pub box : taken ≡ taken_at page.fonts c at
 
 -- the box is free at none of them
 abbrev pub HasNoFree : PageValue → List Placed → CandidateValue → List PixelValue → Type 0
@@ -49,11 +49,11 @@ pub record Fits (page : PageValue) (old : PlacingValue) (c : CandidateValue) (at
 
 -- the first of its corners where it fits, with the box there; or it fits nowhere
 pub record IsFirstFit (page : PageValue) (old : PlacingValue) (c : CandidateValue) (at : PixelValue) (taken : PixelBoxValue) : Type 0 where
-  pub first : IsFirst (Fits page old c) (corners page.font c) at
-  pub box : taken ≡ taken_at page.font c at
+  pub first : IsFirst (Fits page old c) (corners page.fonts c) at
+  pub box : taken ≡ taken_at page.fonts c at
 
 abbrev pub FitsNowhere : PageValue → PlacingValue → CandidateValue → Type 0
-FitsNowhere page old c = (i : ℕ) (at : PixelValue) → slice_get (corners page.font c) i ≡ Some at → Fits page old c at → ⊥
+FitsNowhere page old c = (i : ℕ) (at : PixelValue) → slice_get (corners page.fonts c) i ≡ Some at → Fits page old c at → ⊥
 
 -- a label of the candidate is added, at the first corner where it fits
 pub record Adds (page : PageValue) (n : ℕ) (c : CandidateValue) (old new : PlacingValue) : Type 0 where

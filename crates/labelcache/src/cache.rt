@@ -64,21 +64,22 @@ impl Cache<'_> {
         self.candidates.get(number)
     }
 
-    /// The placement of the candidates on a picture of that width and height, each at most `MAX_SIDE` pixels, with the font.
+    /// The placement of the candidates on a picture of that width and height, each at most `MAX_SIDE` pixels, each in its font
+    /// of these.
     ///
     /// Where there are candidates, it takes memory for the labels, for the indices that tests query, and for some advances
-    /// of the font, all from the allocator of the candidates.
+    /// of the fonts, all from the allocator of the candidates.
     #[tactic(auto, using(crate::proofs::Unlabelled::none_placed))]
-    pub fn place(&self, width: u16, height: u16, font: &Font) -> Result<Vec<Placed>, AllocError>
+    pub fn place(&self, width: u16, height: u16, fonts: &[Font]) -> Result<Vec<Placed>, AllocError>
         requires { IsPage width height }
         ensures corners { IfOk result (λ labels. All (λ label. IsTextCorner label.at) labels.items) }
-        ensures placed { IfOk result (λ labels. IsPlacement (setting (record { width = width; height = height; font = font.now }) self.now) labels.items) }
+        ensures placed { IfOk result (λ labels. IsPlacement (setting (record { width = width; height = height; fonts = fonts.now }) self.now) labels.items) }
     {
         let alloc = *self.candidates.allocator();
         if self.candidates.is_empty() {
             return Ok(Vec::new(alloc));
         }
-        let page = Page::new(alloc, width, height, font)?;
+        let page = Page::new(alloc, width, height, fonts)?;
         place_all(alloc, &page, &self.candidates)
     }
 }

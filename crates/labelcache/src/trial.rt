@@ -1,7 +1,7 @@
 ghost use Rattle.std.specs.Prelude.{◌≡◌, ◌↔◌, false, map, All, IsTrue, IfSome, IfNone, OnOk};
 ghost use Rattle.geom.specs.PxBox.{IsInside};
 ghost use Rattle.labelcache.specs.Candidate.{IsTextCorner};
-ghost use Rattle.labelcache.specs.LabelBox.{corner_at, positions, size_of, taken_at};
+ghost use Rattle.labelcache.specs.LabelBox.{corner_at, positions, size_in, taken_at};
 ghost use Rattle.labelcache.specs.Placement.{IsClear};
 ghost use Rattle.labelcache.specs.Placing.{HasNoFree, FitsNowhere, IsFar, IsFirstFree, IsFirstFit, IsFree, Tries};
 
@@ -23,10 +23,10 @@ pub struct Fit {
 
 // The fit at a position of a candidate whose text has that size.
 fn fit_at(page: &Page<'_>, candidate: &Candidate<'_>, size: TextSize, position: Position) -> Fit
-    requires { size ≡ size_of page.now.font candidate.now.text }
+    requires { size ≡ size_in page.now.fonts candidate.now }
     ensures corner { IsTextCorner result.at }
-    ensures at { result.at ≡ corner_at candidate.now.anchor (size_of page.now.font candidate.now.text) position }
-    ensures taken { result.taken ≡ taken_at page.now.font candidate.now result.at }
+    ensures at { result.at ≡ corner_at candidate.now.anchor (size_in page.now.fonts candidate.now) position }
+    ensures taken { result.taken ≡ taken_at page.now.fonts candidate.now result.at }
 {
     let at = corner_at(candidate.anchor(), size, position);
     let taken = taken_at(at, size, candidate);
@@ -64,11 +64,11 @@ fn first_free(
     ensures corner { IfSome result (λ fit. IsTextCorner fit.at) }
     ensures some { IfSome result
         (λ fit. IsFirstFree page.now placing.now.labels candidate.now
-        (map (corner_at candidate.now.anchor (size_of page.now.font candidate.now.text)) positions.now)
+        (map (corner_at candidate.now.anchor (size_in page.now.fonts candidate.now)) positions.now)
         fit.at fit.taken) }
     ensures none { IfNone result
         (HasNoFree page.now placing.now.labels candidate.now
-        (map (corner_at candidate.now.anchor (size_of page.now.font candidate.now.text)) positions.now)) }
+        (map (corner_at candidate.now.anchor (size_in page.now.fonts candidate.now)) positions.now)) }
 {
     let size = page.size_of(candidate);
     let label = candidate.label();
@@ -92,11 +92,11 @@ fn first_position(
     ensures corner { IfSome result (λ fit. IsTextCorner fit.at) }
     ensures some { IfSome result
         (λ fit. IsFirstFree page.now placing.now.labels candidate.now
-        (map (corner_at candidate.now.anchor (size_of page.now.font candidate.now.text)) (positions position))
+        (map (corner_at candidate.now.anchor (size_in page.now.fonts candidate.now)) (positions position))
         fit.at fit.taken) }
     ensures none { IfNone result
         (HasNoFree page.now placing.now.labels candidate.now
-        (map (corner_at candidate.now.anchor (size_of page.now.font candidate.now.text)) (positions position))) }
+        (map (corner_at candidate.now.anchor (size_in page.now.fonts candidate.now)) (positions position))) }
 {
     match position {
         Position::Automatic => first_free(placing, page, candidate, &AUTOMATIC),
