@@ -68,14 +68,11 @@ impl<'a> Scene<'a> {
         self.map.get().layers.as_slice()[index].get()
     }
 
-    /// The font of the map's labels, if it has one.
-    pub fn font(&self) -> Option<&'a Font>
-        ensures { option_copied result ≡ self.now.map.font }
+    /// The fonts of the map's labels.
+    pub fn fonts(&self) -> &'a [Font]
+        ensures { result.now ≡ self.now.map.fonts }
     {
-        match &self.map.get().font {
-            Some(font) => Some(font.get()),
-            None => None,
-        }
+        self.map.get().fonts.as_slice()
     }
 
     /// The symbols of the map.
