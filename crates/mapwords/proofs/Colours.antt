@@ -111,13 +111,13 @@ module _ (t : TokenValue) (k : ℕ) (below : k < 256) (written : t.text ≡ deci
 
 -- three counts are the red, the green and the blue of the keyword's colour
 pub counts_of : (w : ColourKeyword) (red green blue : ℕ) → red < 256 → green < 256 → blue < 256 →
-    (tail : Tail) (r g b : TokenValue) (ts : List TokenValue) →
+    (tail : Tail) (is_too_many : List ℕ → Bool) (r g b : TokenValue) (ts : List TokenValue) →
     IsTrue (is_value r.shape) → IsTrue (is_value g.shape) → IsTrue (is_value b.shape) →
     r.text ≡ decimal red → g.text ≡ decimal green → b.text ≡ decimal blue →
-    value_in tail (expected.Colour w) (r ∷ g ∷ b ∷ ts)
+    value_in tail is_too_many (expected.Colour w) (r ∷ g ∷ b ∷ ts)
     ≡ Ok (record { value = value.Colour w (Some (record { red = red; green = green; blue = blue })); rest = ts })
 unfolding value_in
-counts_of w red green blue p q s tail r g b ts vr vg vb er eg eb =
+counts_of w red green blue p q s tail is_too_many r g b ts vr vg vb er eg eb =
     rw (
       not_end-in r red p er r.shape,
       red-read r red p er vr w,

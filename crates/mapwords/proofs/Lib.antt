@@ -1,2 +1,3 @@
 pub mod Colours
 mod Lookup
+mod Prefixes

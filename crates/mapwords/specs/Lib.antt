@@ -2,6 +2,7 @@ pub mod Colour
 pub mod Count
 pub mod Extent
 pub mod Fault
+pub mod Font
 pub mod Given
 pub mod Keyword
 pub mod Label

@@ -13,7 +13,7 @@ use Rattle.mapdefs.specs.declared.layer.Geometry.TheVariants.{Point, Line, Polyg
 use Rattle.mapwords.specs.declared.colour.Component.{Component}
 use Rattle.mapwords.specs.declared.named.Named.{Named}
 use Rattle.mapwords.specs.declared.table.ColourKeyword.{ColourKeyword}
-use Rattle.mapwords.specs.declared.table.TextKeyword.TheVariants.{LabelFont, Data}
+use Rattle.mapwords.specs.declared.table.TextKeyword.TheVariants.{Data}
 use Rattle.mapwords.specs.declared.table.FlagKeyword.TheVariants.{Png, Mercator}
 use Rattle.mapwords.specs.declared.table.OnlyWord.{OnlyWord}
 use Rattle.mapwords.specs.declared.table.OnlyWord.TheVariants.{Pixels, On}
@@ -27,6 +27,8 @@ use Rattle.mapwords.specs.declared.fault.Fault.{Fault}
 use Rattle.mapwords.specs.declared.fault.ParseKind.TheVariants.{WrongValue, BadExpression}
 use Rattle.mapwords.specs.Fault.{fault_of, refused}
 use Rattle.mapwords.specs.Extent.{extent_of}
+use Rattle.mapwords.specs.declared.font.FontKey.TheVariants as font
+use Rattle.mapwords.specs.Font.{after_labelfont, font_name, font_name_of}
 use Rattle.mapwords.specs.Label.{position_of, flag_of}
 use Rattle.mapwords.specs.declared.offer.Offer.TheVariants as offer
 use Rattle.mapwords.specs.Offer.{offered}
@@ -109,15 +111,28 @@ abbrev pub north_step : ℤ → ℤ → ℤ → Option ℤ → Option ValueStep
 north_step minx miny maxx None = None
 north_step minx miny maxx (Some maxy) = option_map (λ area. Whole (value.Extent area)) (extent_of minx miny maxx maxy)
 
--- a CONFIG has a key and a value: that of LABELFONT names the file of the labels' font, those of WMS_FORMATS and WMS_CRS
--- say what is offered, that of WMS_SMOOTHING how many times as fine the pictures are that are averaged, another has no effect
-abbrev pub config_step : List ℕ → ValueStep
-config_step key =
-    if is_same_name key (codes "LABELFONT") then More (expected.Text LabelFont)
-    else if is_same_name key (codes "WMS_FORMATS") then More expected.Formats
-    else if is_same_name key (codes "WMS_CRS") then More expected.Systems
-    else if is_same_name key (codes "WMS_SMOOTHING") then More expected.Smoothing
-    else More (expected.Unused 0)
+-- a CONFIG has a key and a value: that of LABELFONT names the file of the font of labels that name none, those of WMS_FORMATS
+-- and WMS_CRS say what is offered, that of WMS_SMOOTHING how many times as fine the pictures are that are averaged, another has
+-- no effect
+abbrev pub setting_of : List ℕ → Expected
+setting_of key =
+    if is_same_name key (codes "LABELFONT") then expected.FontFile font.Default
+    else if is_same_name key (codes "WMS_FORMATS") then expected.Formats
+    else if is_same_name key (codes "WMS_CRS") then expected.Systems
+    else if is_same_name key (codes "WMS_SMOOTHING") then expected.Smoothing
+    else expected.Unused 0
+
+-- that of LABELFONT, a space and a name names the file of the font of this name; what is no name may not stand there
+abbrev pub config_step : List ℕ → Option ValueStep
+config_step key = elim (after_labelfont key) [
+  | Some text ↦ option_map (λ name. More (expected.FontFile (font.Named name))) (font_name text)
+  | None ↦ Some (More (setting_of key))
+]
+
+-- the name of the font whose file comes after a token, if that is a key with one
+abbrev pub font_name_at : Expected → TokenValue → Option (List ℕ)
+font_name_at expected.ConfigKey t = if is_value t.shape then font_name_of t.text else None
+font_name_at _ t = None
 
 -- a token as a value of which nothing is kept but numbers, if it is such a value
 abbrev pub plain_step : Expected → TokenValue → Option ValueStep
@@ -138,7 +153,6 @@ plain_step (expected.South x) t = south_step x (coordinate_of t.text)
 plain_step (expected.East x y) t = east_step x y (coordinate_of t.text)
 plain_step (expected.North x y east) t = north_step x y east (coordinate_of t.text)
 plain_step (expected.Only word) t = only_step word t.text
-plain_step expected.ConfigKey t = Some (config_step t.text)
 plain_step expected.Formats t = option_map (λ is_offered. Whole (value.Flag Png is_offered)) (offered offer.Png t.text)
 plain_step expected.Systems t = option_map (λ is_offered. Whole (value.Flag Mercator is_offered)) (offered offer.Mercator t.text)
 plain_step expected.Smoothing t = option_map (λ smoothing. Whole (value.Smoothing smoothing)) (read_smoothing t.text t.line)
@@ -163,6 +177,8 @@ step_in (expected.Text keyword) t = Ok (Whole (value.Text keyword (named t.text 
 step_in expected.Table t = table_step t
 step_in expected.Rule t = rule_step t
 step_in expected.Setting t = setting_step t
+step_in expected.ConfigKey t = ok_or (config_step t.text) (fault_of WrongValue t)
+step_in (expected.FontFile key) t = Ok (Whole (value.Font key (named t.text t.line)))
 step_in e t = ok_or (plain_step e t) (fault_of WrongValue t)
 
 -- a value is a bare word or a quoted text; only a rule may be a Logic or a List

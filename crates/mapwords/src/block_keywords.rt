@@ -184,9 +184,9 @@ fn label_role(keyword: Keyword) -> Option<Role>
         Keyword::Partials => Some(Role::Takes(Expected::Flag(FlagKeyword::Partials))),
         Keyword::Force => Some(Role::Takes(Expected::Flag(FlagKeyword::Force))),
         Keyword::OutlineWidth => Some(Role::Takes(Expected::Text(TextKeyword::OutlineWidth))),
+        Keyword::Font => Some(Role::Takes(Expected::Text(TextKeyword::Font))),
         Keyword::Antialias
         | Keyword::Encoding
-        | Keyword::Font
         | Keyword::GeometryType
         | Keyword::MaxSize
         | Keyword::MinFeatureSize

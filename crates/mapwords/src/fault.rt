@@ -23,8 +23,8 @@ pub enum ParseKind {
     /// An END before a required value, keyword, block or vertex.
     #[error("an END before a required keyword or value")]
     MissingValue,
-    /// A block, a vertex or an item more than a map may have.
-    #[error("more symbols, layers, classes, styles, labels, features, vertices or items than a map may have")]
+    /// A block, a vertex, an item or a name of a font more than a map may have.
+    #[error("more symbols, layers, classes, styles, labels, features, vertices, items or names of fonts than a map may have")]
     Limit,
     /// A file that is missing. The line is that of its first use.
     #[error("a file that can't be read")]

@@ -16,9 +16,11 @@
 mod block_keywords;
 mod capped;
 mod colour;
+mod config;
 mod count;
 mod extent;
 mod fault;
+mod font;
 mod keyword;
 mod label;
 pub mod laws;
@@ -36,9 +38,11 @@ mod value;
 
 pub use block_keywords::{role_in, role_of};
 pub use capped::Capped;
+pub use config::font_name_at;
 pub use count::Count;
 pub use extent::Extent;
 pub use fault::{Fault, ParseFault, ParseKind, fault_of, missing};
+pub use font::FontKey;
 pub use keyword::{Keyword, is_end};
 pub use named::Named;
 pub use role::{Block, Expected, Role};

@@ -1,4 +1,5 @@
 use crate::colour::Component;
+use crate::font::FontKey;
 use crate::table::{ColourKeyword, CountKeyword, FlagKeyword, OnlyWord, ScaleKeyword, TextKeyword};
 
 /// The blocks of the language.
@@ -29,7 +30,7 @@ pub enum Block {
 }
 
 /// What a keyword still expects, with the values that were read for it.
-#[derive(Clone, Copy)]
+#[derive(Drop)]
 pub enum Expected {
     /// A text.
     Text(TextKeyword),
@@ -59,6 +60,8 @@ pub enum Expected {
     Setting,
     /// The key of a CONFIG, after which its value comes.
     ConfigKey,
+    /// The name of the file of a font, after the key of that.
+    FontFile(FontKey),
     /// Names of formats, of which the service offers those that it can make.
     Formats,
     /// Names of coordinate reference systems, of which it offers web mercator.
@@ -87,7 +90,7 @@ pub enum Expected {
 }
 
 /// What a keyword does in its block.
-#[derive(Clone, Copy)]
+#[derive(Drop)]
 pub enum Role {
     /// It ends the block.
     Closes,

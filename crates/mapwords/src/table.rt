@@ -28,8 +28,8 @@ pub enum TextKeyword {
     Image,
     /// The name of the symbol that a style draws points with.
     Symbol,
-    /// The name of the file that the font of the labels is in.
-    LabelFont,
+    /// The name of the font of a label.
+    Font,
     Text,
     Items,
     /// The width of a label's outline, which only a smoothed map judges.

@@ -3,13 +3,15 @@ ghost use Rattle.mapwords.specs.declared.value.ValueStep.TheVariants.{Whole, Mor
 ghost use Rattle.mapwords.specs.Fault.{IsErrorOf};
 ghost use Rattle.mapwords.specs.declared.value.Value.TheVariants as ValueTree;
 ghost use Rattle.mapwords.specs.Colour.{component_of};
-ghost use Rattle.mapwords.specs.Value.{geometry_of, is_value, hex_at, colour_step, green_step, blue_step, only_text, only_step, unused_step, west_step, south_step, east_step, north_step, config_step, is_table_name, table_step, rule_step, plain_step, step_in, may_take, value_step, coordinate_in};
+ghost use Rattle.mapwords.specs.Value.{geometry_of, is_value, hex_at, colour_step, green_step, blue_step, only_text, only_step, unused_step, west_step, south_step, east_step, north_step, is_table_name, table_step, rule_step, plain_step, step_in, may_take, value_step, coordinate_in};
 
 use crate::capped::Capped;
 use crate::colour::{Component, hex_colour, rgb_of};
+use crate::config::{config_step, font_step};
 use crate::count::Count;
 use crate::extent::Extent;
 use crate::fault::{ParseFault, ParseKind, fault_of};
+use crate::font::FontKey;
 use crate::label::{flag_of, position_of};
 use crate::named::Named;
 use crate::number::read_number;
@@ -45,6 +47,8 @@ pub enum Value {
     Items(Capped<Text, MAX_ITEMS>),
     Extent(Extent),
     Smoothing(Smoothing),
+    /// A font, and the name of the file that it is in.
+    Font(FontKey, Named),
     /// The end of values that have no effect.
     Nothing,
 }
@@ -217,30 +221,12 @@ fn north_step(minx: i64, miny: i64, maxx: i64, north: Option<Coordinate>) -> Opt
     extent_step(Extent::of(minx, miny, maxx, maxy))
 }
 
-// Reads the key of a CONFIG. That of the labels' font is followed by the name of its file, two by what is offered, and one by
-// how many times as fine the pictures are that are averaged.
-fn config_step(key: &str) -> ValueStep
-    ensures { result ≡ config_step key.now }
-{
-    if key == "LABELFONT" {
-        ValueStep::More(Expected::Text(TextKeyword::LabelFont))
-    } else if key == "WMS_FORMATS" {
-        ValueStep::More(Expected::Formats)
-    } else if key == "WMS_CRS" {
-        ValueStep::More(Expected::Systems)
-    } else if key == "WMS_SMOOTHING" {
-        ValueStep::More(Expected::Smoothing)
-    } else {
-        ValueStep::More(Expected::Unused(0))
-    }
-}
-
 // Reads a token of a value of which nothing is kept but numbers.
-fn plain_step(expected: Expected, token: &Token) -> Option<ValueStep>
-    ensures { result ≡ plain_step expected token.now }
+fn plain_step(expected: &Expected, token: &Token) -> Option<ValueStep>
+    ensures { result ≡ plain_step expected.now token.now }
 {
     let text = token.text;
-    match expected {
+    match *expected {
         Expected::Geometry => whole(geometry_of(text).map(Value::Geometry)),
         Expected::Pixmap => pixmap_step(text),
         Expected::SymbolType => type_step(text),
@@ -260,13 +246,17 @@ fn plain_step(expected: Expected, token: &Token) -> Option<ValueStep>
         Expected::East(x, y) => east_step(x, y, Coordinate::read(text)),
         Expected::North(x, y, east) => north_step(x, y, east, Coordinate::read(text)),
         Expected::Only(word) => only_step(word, text),
-        Expected::ConfigKey => Some(config_step(text)),
         Expected::Formats => offer_step(FlagKeyword::Png, Offer::Png.offered(text)),
         Expected::Systems => offer_step(FlagKeyword::Mercator, Offer::Mercator.offered(text)),
         Expected::Smoothing => whole(Smoothing::read(text, token.line).map(Value::Smoothing)),
         Expected::Unused(more) => Some(unused_step(more)),
         // They are kept as texts.
-        Expected::Text(_) | Expected::Table | Expected::Rule | Expected::Setting => None,
+        Expected::Text(_)
+        | Expected::Table
+        | Expected::Rule
+        | Expected::Setting
+        | Expected::ConfigKey
+        | Expected::FontFile(_) => None,
     }
 }
 
@@ -304,16 +294,18 @@ fn table_step(token: &Token, alloc: Global) -> Result<ValueStep, ParseFault>
 }
 
 // Reads a token of a value.
-fn step_in(expected: Expected, token: &Token, alloc: Global) -> Result<ValueStep, ParseFault>
+fn step_in(expected: &Expected, token: &Token, alloc: Global) -> Result<ValueStep, ParseFault>
     ensures { MatchResult result
-        (λ step. step_in expected token.now ≡ Ok step)
-        (IsErrorOf (step_in expected token.now)) }
+        (λ step. step_in expected.now token.now ≡ Ok step)
+        (IsErrorOf (step_in expected.now token.now)) }
 {
     match expected {
         Expected::Text(keyword) => {
             let text = Named::read(alloc, token.text, token.line)?;
-            Ok(ValueStep::Whole(Value::Text(keyword, text)))
+            Ok(ValueStep::Whole(Value::Text(*keyword, text)))
         }
+        Expected::ConfigKey => config_step(token, alloc),
+        Expected::FontFile(key) => Ok(font_step(key, token, alloc)?),
         Expected::Table => table_step(token, alloc),
         Expected::Rule => rule_step(token, alloc),
         Expected::Setting => setting_step(token, alloc),
@@ -335,12 +327,16 @@ fn may_take(expected: &Expected, token: &Token) -> bool
 }
 
 /// Reads a token of a value.
-pub fn value_step(expected: Expected, token: &Token, alloc: Global) -> Result<ValueStep, ParseFault>
+pub fn value_step(
+    expected: &Expected,
+    token: &Token,
+    alloc: Global,
+) -> Result<ValueStep, ParseFault>
     ensures { MatchResult result
-        (λ step. value_step expected token.now ≡ Ok step)
-        (IsErrorOf (value_step expected token.now)) }
+        (λ step. value_step expected.now token.now ≡ Ok step)
+        (IsErrorOf (value_step expected.now token.now)) }
 {
-    if !may_take(&expected, token) {
+    if !may_take(expected, token) {
         return Err(fault_of(ParseKind::WrongValue, token).into());
     }
     step_in(expected, token, alloc)
