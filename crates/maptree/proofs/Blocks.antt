@@ -5,7 +5,9 @@ use Rattle.maplex.specs.declared.fault.Tail.{Tail}
 use Rattle.maplex.specs.Token.{TokenValue}
 use Rattle.mapwords.specs.declared.role.Block.{Block}
 use Rattle.mapwords.specs.declared.fault.Fault.{Fault}
+use Rattle.maptree.specs.Data.{lacks_room}
 use Rattle.maptree.specs.Entries.{Entries, Nothing, with_block}
+use Rattle.maptree.specs.Tree.{files_used}
 use Rattle.mapdefs.specs.Outcome.{and_then}
 use Rattle.mapwords.specs.Given.{value_in}
 use Rattle.maptree.specs.Meaning.{latitude_in, block_in, CountIsEnough}
@@ -34,7 +36,7 @@ module _ (tail : Tail) (n : ℕ) (below : (b : Block) (above own : Entries) (ts 
   leaves-saying (Opens c) b above own ts =
       leaves-and_then (block_in tail n c own Nothing ts) (λ e. length e.1 ≤ length ts) (length ts) _ (below c own Nothing ts) (λ e l. leaves_more (length e.1) (length ts) _ l (below b above _ e.1))
   leaves-saying (Takes e) b above own ts =
-      leaves-and_then (value_in tail e ts) (λ v. length v.rest ≤ length ts) (length ts) _ (value-left tail e ts) (λ v l. leaves_more (length v.rest) (length ts) _ l (below b above _ v.rest))
+      leaves-and_then (value_in tail (lacks_room b (files_used own)) e ts) (λ v. length v.rest ≤ length ts) (length ts) _ (value-left tail (lacks_room b (files_used own)) e ts) (λ v l. leaves_more (length v.rest) (length ts) _ l (below b above _ v.rest))
   leaves-saying Skips b above own ts = below b above own ts
   leaves-saying (Longitude x) b above own ts =
       leaves-and_then (latitude_in tail ts) (λ y. length y.1 ≤ length ts) (length ts) _ (latitude-left tail ts) (λ y l. leaves_more (length y.1) (length ts) _ l (below b above _ y.1))
@@ -59,7 +61,7 @@ module _ (tail : Tail) (n m : ℕ) (below : (b : Block) (above own : Entries) (t
       ap (λ r. and_then r (λ inner. block_in tail n b above (with_block c inner.0 own) inner.1)) (below c own Nothing ts p q)
       ∙ same-while (block_in tail m c own Nothing ts) (λ e. length e.1 ≤ length ts) _ _ (block-at_most tail m c own Nothing ts) (λ e l. below b above _ e.1 (omega arith) (omega arith))
   same-saying (Takes e) b above own ts p q =
-      same-while (value_in tail e ts) (λ v. length v.rest ≤ length ts) _ _ (value-left tail e ts) (λ v l. below b above _ v.rest (omega arith) (omega arith))
+      same-while (value_in tail (lacks_room b (files_used own)) e ts) (λ v. length v.rest ≤ length ts) _ _ (value-left tail (lacks_room b (files_used own)) e ts) (λ v l. below b above _ v.rest (omega arith) (omega arith))
   same-saying Skips b above own ts p q = below b above own ts p q
   same-saying (Longitude x) b above own ts p q =
       same-while (latitude_in tail ts) (λ y. length y.1 ≤ length ts) _ _ (latitude-left tail ts) (λ y l. below b above _ y.1 (omega arith) (omega arith))

@@ -23,7 +23,7 @@ use Rattle.mapwords.specs.declared.value.Value.{Value}
 use Rattle.mapwords.specs.declared.value.ValueStep.{ValueStep}
 use Rattle.mapwords.specs.declared.value.ValueStep.TheVariants.{More, Whole}
 use Rattle.mapwords.specs.Setting.{web_expects, layer_expects}
-use Rattle.mapwords.specs.Symbol.{is_early_end}
+use Rattle.maptree.specs.Data.{lacks_room}
 use Rattle.maptree.specs.Draft.{noted, with_value}
 use Rattle.maptree.specs.Draft as draft
 use Rattle.maptree.specs.End.{ends}
@@ -32,16 +32,16 @@ use Rattle.mapwords.specs.Fault.{fault_of, refused}
 use Rattle.mapdefs.specs.Outcome.{and_then}
 use Rattle.mapwords.specs.Keyword.{keyword_at, is_at, is_end}
 use Rattle.maptree.specs.Meaning as meaning
-use Rattle.mapwords.specs.Given.{Given, value_in}
+use Rattle.mapwords.specs.Given.{Given, given_step, is_beyond, value_in}
 use Rattle.maptree.specs.Meaning.{latitude_in, block_in, map_in}
 use Rattle.maptree.specs.Pass as pass
 use Rattle.maptree.specs.Pass.{reads, passed}
 use Rattle.maptree.specs.Says.{Saying, Ends, Opens, Takes, Longitude, Skips, closing_fault, ends_unless, is_full, role_says, says, vertex_says, skipped_says}
 use Rattle.maptree.specs.Smoothing.{is_smooth}
 use Rattle.maptree.specs.Step.{read_end, read_role, note_step, coordinate_at, skip, read_token}
-use Rattle.maptree.specs.Tree.{map_tree}
-use Rattle.mapwords.specs.Value.{is_value, value_step, coordinate_in}
-use Rattle.maptree.proofs.OpenBlocks.{OpenBlocks, only_map, metadata-ends, drafts_of, in_block, above, after_end, Nests, Fits, fits-option, fits-symbol_option, Frees, projection-frees, skipped-frees, label-frees, same-room, unless_fault, same-end}
+use Rattle.maptree.specs.Tree.{files_used, map_tree}
+use Rattle.mapwords.specs.Value.{font_name_at, is_value, coordinate_in}
+use Rattle.maptree.proofs.OpenBlocks.{OpenBlocks, only_map, metadata-ends, drafts_of, in_block, above, after_end, Nests, Fits, fits-option, fits-symbol_option, same-names, Frees, projection-frees, skipped-frees, label-frees, same-room, unless_fault, same-end}
 use Rattle.maptree.proofs.Reading.{Ended, LeavesAtMost, read_after, reads-at_most, reads-enough}
 
 -- what is read of a block
@@ -72,50 +72,55 @@ value-noted : (b : Block) (v : Value) (own : Entries) (o : OpenBlocks) → with_
 value-noted b v own o = noted-if b v (has_effect v) own o
 
 -- the rest of a value's tokens, by its next step
-abbrev value_after : Tail → List TokenValue → Result ValueStep Fault → Result Given Fault
-value_after tail ts step = and_then step (λ s. elim s [
-  | More next ↦ value_in tail next ts
+abbrev value_after : Tail → (List ℕ → Bool) → List TokenValue → Result ValueStep Fault → Result Given Fault
+value_after tail too_many ts step = and_then step (λ s. elim s [
+  | More next ↦ value_in tail too_many next ts
   | Whole value ↦ Ok (record { value = value; rest = ts })
 ])
 
-module _ (tail : Tail) (t : TokenValue) (ts : List TokenValue) (k : ℕ) (below : (e : Expected) → IfOk (value_in tail e ts) (λ v. length v.rest ≤ k)) (p : length ts ≤ k) where
-  left-step : (last : Bool) (step : Result ValueStep Fault) → IfOk (if last then refused MissingValue t else value_after tail ts step) (λ v. length v.rest ≤ k)
-  left-step true step = tt
-  left-step false (Err f) = tt
-  left-step false (Ok (More next)) = below next
-  left-step false (Ok (Whole v)) = p
+module _ (tail : Tail) (too_many : List ℕ → Bool) (ts : List TokenValue) (k : ℕ) (below : (e : Expected) → IfOk (value_in tail too_many e ts) (λ v. length v.rest ≤ k)) (p : length ts ≤ k) where
+  left-step : (step : Result ValueStep Fault) → IfOk (value_after tail too_many ts step) (λ v. length v.rest ≤ k)
+  left-step (Err f) = tt
+  left-step (Ok (More next)) = below next
+  left-step (Ok (Whole v)) = p
+
+-- the step of a value that a token is
+abbrev step_at : (List ℕ → Bool) → Expected → TokenValue → Result ValueStep Fault
+step_at too_many e t = given_step (is_beyond too_many (font_name_at e t)) e t
 
 -- a value leaves no token that was not there
-at-most : (tail : Tail) (k : ℕ) (e : Expected) (ts : List TokenValue) → length ts ≤ k → IfOk (value_in tail e ts) (λ v. length v.rest ≤ k)
+at-most : (tail : Tail) (too_many : List ℕ → Bool) (k : ℕ) (e : Expected) (ts : List TokenValue) → length ts ≤ k → IfOk (value_in tail too_many e ts) (λ v. length v.rest ≤ k)
 unfolding value_in
-at-most tail k e [] p = tt
-at-most tail k e (t ∷ ts) p =
-    left-step tail t ts k (λ next. at-most tail k next ts (omega arith)) (omega arith) (is_early_end e t) (value_step e t)
+at-most tail too_many k e [] p = tt
+at-most tail too_many k e (t ∷ ts) p =
+    left-step tail too_many ts k (λ next. at-most tail too_many k next ts (omega arith)) (omega arith) (step_at too_many e t)
 
-pub value-left : (tail : Tail) (e : Expected) (ts : List TokenValue) → IfOk (value_in tail e ts) (λ v. length v.rest ≤ length ts)
-value-left tail e ts = at-most tail (length ts) e ts (omega arith)
+pub value-left : (tail : Tail) (too_many : List ℕ → Bool) (e : Expected) (ts : List TokenValue) → IfOk (value_in tail too_many e ts) (λ v. length v.rest ≤ length ts)
+value-left tail too_many e ts = at-most tail too_many (length ts) e ts (omega arith)
 
 -- the drafts and the tokens after a value
 abbrev noted_after : Block → Drafts → Given → Drafts × List TokenValue
 noted_after b d v = (with_value b v.value d, v.rest)
 
-module _ (tail : Tail) (n : ℕ) (b : Block) (below : (e : Expected) (d : Drafts) (ts : List TokenValue) → length ts ≤ n → reads tail n (Values b e) d ts ≡ and_then (value_in tail e ts) (λ v. Ok (noted_after b d v))) where
-  value-step : (e : Expected) (d : Drafts) (t : TokenValue) (ts : List TokenValue) (last : Bool) (step : Result ValueStep Fault) → length ts ≤ n →
-      and_then (if last then refused MissingValue t else note_step b step d) (read_after tail n (Values b e) ts)
-      ≡ and_then (if last then refused MissingValue t else value_after tail ts step) (λ v. Ok (noted_after b d v))
-  value-step e d t ts true step p = refl
-  value-step e d t ts false (Err f) p = refl
-  value-step e d t ts false (Ok (More next)) p = below next d ts p
-  value-step e d t ts false (Ok (Whole v)) p = refl
+-- the names that would be one too many in a block of a map of which this was read
+abbrev too_many_in : Block → Drafts → List ℕ → Bool
+too_many_in b d = lacks_room b d.map.files
+
+module _ (tail : Tail) (n : ℕ) (b : Block) (d : Drafts) (below : (e : Expected) (ts : List TokenValue) → length ts ≤ n → reads tail n (Values b e) d ts ≡ and_then (value_in tail (too_many_in b d) e ts) (λ v. Ok (noted_after b d v))) where
+  value-step : (e : Expected) (ts : List TokenValue) (step : Result ValueStep Fault) → length ts ≤ n →
+      and_then (note_step b step d) (read_after tail n (Values b e) ts) ≡ and_then (value_after tail (too_many_in b d) ts step) (λ v. Ok (noted_after b d v))
+  value-step e ts (Err f) p = refl
+  value-step e ts (Ok (More next)) p = below next ts p
+  value-step e ts (Ok (Whole v)) p = refl
 
 -- a value is read in drafts as it is given
-reads-value : (tail : Tail) (n : ℕ) (b : Block) (e : Expected) (d : Drafts) (ts : List TokenValue) → length ts ≤ n → reads tail n (Values b e) d ts ≡ and_then (value_in tail e ts) (λ v. Ok (noted_after b d v))
+reads-value : (tail : Tail) (n : ℕ) (b : Block) (e : Expected) (d : Drafts) (ts : List TokenValue) → length ts ≤ n → reads tail n (Values b e) d ts ≡ and_then (value_in tail (too_many_in b d) e ts) (λ v. Ok (noted_after b d v))
 unfolding reads value_in
 reads-value tail zero b e d [] p = refl
 reads-value tail (suc n) b e d [] p = refl
 reads-value tail zero b e d (t ∷ ts) p = absurd (omega arith)
 reads-value tail (suc n) b e d (t ∷ ts) p =
-    value-step tail n b (λ next c us. reads-value tail n b next c us) e d t ts (is_early_end e t) (value_step e t) (omega arith)
+    value-step tail n b d (λ next us. reads-value tail n b next d us) e ts (step_at (too_many_in b d) e t) (omega arith)
 
 same-next : {X Y : Type 0} (r : Result X Fault) (f g : X → Result Y Fault) → ((x : X) → f x ≡ g x) → and_then r f ≡ and_then r g
 same-next (Ok x) f g p = p x
@@ -140,7 +145,7 @@ abbrev pub block_after : Tail → ℕ → Block → Entries → Entries → List
 block_after tail n b above own ts saying = elim saying [
   | Ends ↦ Ok (own, ts)
   | Opens c ↦ and_then (block_in tail n c own Nothing ts) (λ inner. block_in tail n b above (with_block c inner.0 own) inner.1)
-  | Takes expected ↦ and_then (value_in tail expected ts) (λ v. block_in tail n b above (with_said v.value own) v.rest)
+  | Takes expected ↦ and_then (value_in tail (lacks_room b (files_used own)) expected ts) (λ v. block_in tail n b above (with_said v.value own) v.rest)
   | Longitude x ↦ and_then (latitude_in tail ts) (λ y. block_in tail n b above (Vertex (record { x = x; y = y.0 }) own) y.1)
   | Skips ↦ block_in tail n b above own ts
 ]
@@ -243,12 +248,12 @@ module _ (tail : Tail) (n : ℕ) (below : (b : Block) (up own : Entries) (o : Op
     -- a value is read, and the block notes it
     takes-here : (e : Expected) →
         and_then (reads tail n (Values b e) (drafts_of (in_block b own o)) ts) (λ r. reads tail n (Keywords b) r.0 r.1)
-        ≡ and_then (and_then (value_in tail e ts) (λ v. block_in tail n b (above b up o) (with_said v.value own) v.rest)) (closed b o)
+        ≡ and_then (and_then (value_in tail (lacks_room b (files_used own)) e ts) (λ v. block_in tail n b (above b up o) (with_said v.value own) v.rest)) (closed b o)
     takes-here e =
-        same-then (value_in tail e ts) (reads tail n (Values b e) (drafts_of (in_block b own o)) ts) (noted_after b (drafts_of (in_block b own o))) (λ r. reads tail n (Keywords b) r.0 r.1) (λ v. block_in tail n b (above b up o) (with_said v.value own) v.rest) (closed b o)
-        (reads-value tail n b e (drafts_of (in_block b own o)) ts p)
+        same-then (value_in tail (lacks_room b (files_used own)) e ts) (reads tail n (Values b e) (drafts_of (in_block b own o)) ts) (noted_after b (drafts_of (in_block b own o))) (λ r. reads tail n (Keywords b) r.0 r.1) (λ v. block_in tail n b (above b up o) (with_said v.value own) v.rest) (closed b o)
+        (reads-value tail n b e (drafts_of (in_block b own o)) ts p ∙ ap (λ too_many. and_then (value_in tail too_many e ts) (λ v. Ok (noted_after b (drafts_of (in_block b own o)) v))) (same-names b own o))
         (λ v is.
-        let left : length v.rest ≤ length ts = subst (λ r. IfOk r (λ (g : Given). length g.rest ≤ length ts)) is (value-left tail e ts) in
+        let left : length v.rest ≤ length ts = subst (λ r. IfOk r (λ (g : Given). length g.rest ≤ length ts)) is (value-left tail (lacks_room b (files_used own)) e ts) in
         ap (λ d. reads tail n (Keywords b) d v.rest) (value-noted b v.value own o)
         ∙ below b up (with_said v.value own) o v.rest (omega arith) room)
 

@@ -21,7 +21,7 @@ use Rattle.mapwords.specs.declared.keyword.Keyword.{Keyword}
 use Rattle.mapwords.specs.declared.keyword.Keyword.TheVariants as keyword
 use Rattle.maptree.specs.declared.tree.LayerTree.{LayerTree}
 use Rattle.maptree.specs.declared.tree.SymbolTree.{SymbolTree}
-use Rattle.maptree.specs.Data.{table_fault, with_named_file}
+use Rattle.maptree.specs.Data.{lacks_room, table_fault, with_named_file}
 use Rattle.maptree.specs.Draft as draft
 use Rattle.maptree.specs.End.{layer_with, finished_layer, ends}
 use Rattle.maptree.specs.End as end
@@ -287,6 +287,11 @@ same-room block.Style up own o = ap (nat_le MAX_STYLES) (length-map (blocks bloc
 same-room block.Feature up own o = ap (nat_le MAX_FEATURES) (length-map (blocks block.Feature o.layer) feature_tree)
 same-room block.Label up own o = is_some-map (last_block block.Label o.class)
 same-room _ up own o = refl
+
+-- there is as much room for a further font as its MAP says
+pub same-names : (b : Block) (own : Entries) (o : OpenBlocks) → lacks_room b (drafts_of (in_block b own o)).map.files ≡ lacks_room b (files_used own)
+same-names block.Map own o = refl
+same-names _ own o = refl
 
 -- what is given where nothing is wrong
 abbrev pub unless_fault : {A : Type 0} → Option Fault → A → Result A Fault

@@ -43,6 +43,8 @@ use Rattle.mapwords.specs.declared.value.Value.TheVariants as value
 use Rattle.mapdefs.specs.declared.class.Rule.TheVariants.{OneOf}
 use Rattle.mapwords.specs.Count.{number_in, read_count}
 use Rattle.mapwords.specs.Table.{least_of, most_of}
+use Rattle.maptree.specs.Data.{lacks_room}
+use Rattle.maptree.specs.Tree.{files_used}
 use Rattle.maptree.specs.Entries.{Entries, Nothing, Said, Vertex, Inside, values, with_said, vertex_count}
 use Rattle.mapdefs.specs.Outcome.{and_then}
 use Rattle.mapwords.specs.Keyword.{spelling, is_spelt}
@@ -214,7 +216,7 @@ module _ (tail : Tail) (k : ℕ) where
 
   -- after a keyword its value is read
   keyword-takes : (b : Block) (above before : Entries) (word : List ℕ) (e : Expected) (line : ℕ) (ts : List TokenValue) (smooth : Bool) → is_smooth (values above) ≡ smooth → IsKeyword smooth b word e →
-      block_in tail (suc k) b above before (bare line word ∷ ts) ≡ and_then (value_in tail e ts) (λ v. block_in tail k b above (with_said v.value before) v.rest)
+      block_in tail (suc k) b above before (bare line word ∷ ts) ≡ and_then (value_in tail (lacks_room b (files_used before)) e ts) (λ v. block_in tail k b above (with_said v.value before) v.rest)
   unfolding block_in
   keyword-takes b above before word e line ts smooth same is = rw (keyword-says b word e line above before smooth same is) refl
 
@@ -249,7 +251,7 @@ module _ (tail : Tail) (k : ℕ) where
       keyword-takes b above before word _ line _ smooth same is ∙ rw (colour-noted smooth b word w None before is) (on b above (Said v before) rest (omega arith))
   value-read b above before v ts rest smooth same (some_colour s c word w rgb line is bytes) p =
       keyword-takes b above before word _ line _ smooth same is
-      ∙ rw (counts_of w rgb.red rgb.green rgb.blue bytes.red bytes.green bytes.blue tail (bare line (decimal rgb.red)) (bare line (decimal rgb.green)) (bare line (decimal rgb.blue)) rest refl refl refl refl refl refl, colour-noted smooth b word w (Some rgb) before is)
+      ∙ rw (counts_of w rgb.red rgb.green rgb.blue bytes.red bytes.green bytes.blue tail (lacks_room c (files_used before)) (bare line (decimal rgb.red)) (bare line (decimal rgb.green)) (bare line (decimal rgb.blue)) rest refl refl refl refl refl refl, colour-noted smooth b word w (Some rgb) before is)
       (on b above (Said v before) rest (omega arith))
   value-read b above before v ts rest smooth same (geometry s c word Point line is) p = keyword-takes b above before word _ line _ smooth same is ∙ on b above (Said v before) rest (omega arith)
   value-read b above before v ts rest smooth same (geometry s c word Line line is) p = keyword-takes b above before word _ line _ smooth same is ∙ on b above (Said v before) rest (omega arith)

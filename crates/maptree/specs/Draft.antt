@@ -1,5 +1,5 @@
 -- What was read of the open blocks (docs/MAPFILE.md, "Blocks and words").
-use Rattle.std.specs.Prelude.{Bool, false, nat_le, if◌then◌else◌, List, [], ◌∷◌, length, None, is_some}
+use Rattle.std.specs.Prelude.{Bool, false, nat_le, if◌then◌else◌, [], ◌∷◌, length, None, is_some}
 use Rattle.std.specs.Option.{option_or}
 use Rattle.mapdefs.specs.declared.limits.TheConstants.{MAX_SYMBOLS, MAX_LAYERS, MAX_CLASSES, MAX_STYLES, MAX_FEATURES}
 use Rattle.mapwords.specs.declared.role.Block.{Block}
@@ -11,14 +11,14 @@ use Rattle.maptree.specs.declared.tree.LayerBody.{LayerBody}
 use Rattle.maptree.specs.declared.tree.MapTree.{MapTree}
 use Rattle.maptree.specs.declared.draft.FeatureDraft.{FeatureDraft}
 use Rattle.maptree.specs.declared.draft.Drafts.{Drafts}
+use Rattle.maptree.specs.Data.{with_font_of}
 use Rattle.maptree.specs.Entries.{has_effect}
 use Rattle.maptree.specs.Parts.{no_parts}
-use Rattle.maptree.specs.Tree.{is_font}
 use Rattle.mapvalues.specs.Values.{words_in}
 
 -- a MAP of which nothing was read
 abbrev pub new_map : MapTree
-new_map = record { values = []; before_font = 0; symbols = []; layers = []; files = [] }
+new_map = record { values = []; symbols = []; layers = []; files = [] }
 
 -- a LAYER of which nothing was read
 abbrev pub new_layer : LayerBody
@@ -38,8 +38,7 @@ fresh = record { map = new_map; symbol = []; layer = new_layer; class = new_clas
 
 -- a value of a MAP is noted
 abbrev pub noted_by_map : Value → MapTree → MapTree
-noted_by_map given map =
-    record map { values = given ∷ map.values; before_font = if is_font given then length map.files else map.before_font }
+noted_by_map given map = record map { values = given ∷ map.values; files = with_font_of given map.files }
 
 -- a value of a FEATURE is noted, if it is its TEXT or its ITEMS
 abbrev pub noted_by_feature : Value → FeatureDraft → FeatureDraft

@@ -10,11 +10,13 @@ use Rattle.mapwords.specs.declared.role.Block.TheVariants as block
 use Rattle.mapwords.specs.declared.keyword.Keyword.TheVariants as keyword
 use Rattle.mapwords.specs.declared.fault.Fault.{Fault}
 use Rattle.mapwords.specs.declared.fault.ParseKind.TheVariants.{UnknownWord, WrongValue, MissingValue}
+use Rattle.maptree.specs.Data.{lacks_room}
 use Rattle.maptree.specs.Entries.{Entries, Nothing, Vertex, with_said, with_block}
 use Rattle.mapwords.specs.Fault.{fault_of, refused, lexical, missing}
 use Rattle.mapdefs.specs.Outcome.{and_then}
 use Rattle.mapwords.specs.Keyword.{is_at, is_end}
 use Rattle.maptree.specs.Says.{says, Ends, Opens, Takes, Longitude, Skips}
+use Rattle.maptree.specs.Tree.{files_used}
 use Rattle.mapwords.specs.Given.{value_in}
 use Rattle.mapwords.specs.Value.{coordinate_in}
 
@@ -33,7 +35,7 @@ block_in tail zero b above own (t ∷ ts) = Err (missing tail)
 block_in tail (suc n) b above own (t ∷ ts) = and_then (says b above own t) (λ saying. elim saying [
   | Ends ↦ Ok (own, ts)
   | Opens c ↦ and_then (block_in tail n c own Nothing ts) (λ inner. block_in tail n b above (with_block c inner.0 own) inner.1)
-  | Takes expected ↦ and_then (value_in tail expected ts) (λ v. block_in tail n b above (with_said v.value own) v.rest)
+  | Takes expected ↦ and_then (value_in tail (lacks_room b (files_used own)) expected ts) (λ v. block_in tail n b above (with_said v.value own) v.rest)
   | Longitude x ↦ and_then (latitude_in tail ts) (λ y. block_in tail n b above (Vertex (record { x = x; y = y.0 }) own) y.1)
   | Skips ↦ block_in tail n b above own ts
 ])

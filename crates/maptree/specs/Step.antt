@@ -19,13 +19,14 @@ use Rattle.mapwords.specs.declared.fault.Fault.{Fault}
 use Rattle.mapwords.specs.declared.fault.ParseKind.TheVariants.{UnknownWord, WrongValue, MissingValue, Limit}
 use Rattle.mapwords.specs.Fault.{fault_of, refused}
 use Rattle.mapdefs.specs.Outcome.{and_then}
+use Rattle.mapwords.specs.Given.{given_step, is_beyond}
 use Rattle.mapwords.specs.Keyword.{keyword_at, is_end}
 use Rattle.mapwords.specs.Setting.{pair_expects}
-use Rattle.mapwords.specs.Symbol.{is_early_end}
 use Rattle.mapwords.specs.Table.{role_in, role_of}
-use Rattle.mapwords.specs.Value.{is_value, value_step, coordinate_in}
+use Rattle.mapwords.specs.Value.{font_name_at, is_value, coordinate_in}
 use Rattle.maptree.specs.Smoothing.{is_smooth}
 use Rattle.maptree.specs.Parts.{vertex_count, with_vertex}
+use Rattle.maptree.specs.Data.{lacks_room}
 use Rattle.maptree.specs.Draft.{with_value, is_full}
 use Rattle.maptree.specs.End.{ends}
 
@@ -50,9 +51,10 @@ note_step b (Err f) d = Err f
 note_step b (Ok (More next)) d = Ok (GoesOn (Values b next), d)
 note_step b (Ok (Whole value)) d = Ok (Leaves, with_value b value d)
 
--- a token is read as a value of a block
+-- a token is read as a value of a block, unless it is the key of a font that the MAP has no room for
 abbrev pub read_value : Block → Expected → Drafts → TokenValue → Result (Move × Drafts) Fault
-read_value b expected d t = if is_early_end expected t then refused MissingValue t else note_step b (value_step expected t) d
+read_value b expected d t =
+    note_step b (given_step (is_beyond (lacks_room b d.map.files) (font_name_at expected t)) expected t) d
 
 -- the coordinate that a token is, of a vertex that the feature must have room for
 abbrev pub coordinate_at : Drafts → TokenValue → Result ℤ Fault

@@ -1,20 +1,18 @@
 -- What the entries of a block come to (docs/MAPFILE.md, "Blocks and words"): the last of equal keywords counts, and
 -- equal blocks add up. Only its own entries count for a block.
-use Rattle.std.specs.Prelude.{ℕ, if◌then◌else◌, Bool, true, false, List, [], ◌∷◌, ◌++◌, length, map, Option, unwrap_or, option_map}
+use Rattle.std.specs.Prelude.{List, [], map, unwrap_or, option_map}
 use Rattle.mapdefs.specs.declared.layer.Geometry.TheVariants.{Polygon}
-use Rattle.mapwords.specs.declared.named.Named.{Named}
 use Rattle.mapwords.specs.declared.role.Block.{Block}
 use Rattle.mapwords.specs.declared.role.Block.TheVariants as block
 use Rattle.mapwords.specs.declared.table.TextKeyword.TheVariants as text
-use Rattle.mapwords.specs.declared.value.Value.{Value}
-use Rattle.mapwords.specs.declared.value.Value.TheVariants as value
 use Rattle.maptree.specs.declared.tree.ClassTree.{ClassTree}
 use Rattle.maptree.specs.declared.tree.FeatureTree.{FeatureTree}
 use Rattle.maptree.specs.declared.tree.LayerBody.{LayerBody}
 use Rattle.maptree.specs.declared.tree.LayerTree.{LayerTree}
 use Rattle.maptree.specs.declared.tree.SymbolTree.{SymbolTree}
 use Rattle.maptree.specs.declared.tree.MapTree.{MapTree}
-use Rattle.maptree.specs.Data.{with_named_file}
+use Rattle.maptree.specs.declared.tree.UsedFile.{UsedFile}
+use Rattle.maptree.specs.Data.{with_named_file, with_font_of}
 use Rattle.maptree.specs.Entries.{Entries, Nothing, Said, Vertex, Inside, values, blocks, last_block, vertices}
 use Rattle.maptree.specs.Symbol.{no_name, symbol_with}
 use Rattle.mapvalues.specs.Values.{geometry_in, last, text_in, words_in}
@@ -58,35 +56,22 @@ symbol_tree own = symbol_with (values own)
 
 -- the files that are used, with that of a block of MAP after them: a SYMBOL uses that of its IMAGE, if it has one, a LAYER that of
 -- its DATA
-abbrev pub with_file_of : Block → Entries → List Named → List Named
+abbrev pub with_file_of : Block → Entries → List UsedFile → List UsedFile
 with_file_of block.Symbol own files = with_named_file (symbol_tree own).image files
 with_file_of block.Layer own files = with_named_file (last (text_in text.Data) (values own)) files
 with_file_of _ own files = files
 
--- the files that the blocks of a MAP use, in their order
-abbrev pub files_used : Entries → List Named
+-- the files that a MAP uses, in the order of their uses
+abbrev pub files_used : Entries → List UsedFile
 files_used Nothing = []
-files_used (Said given before) = files_used before
+files_used (Said given before) = with_font_of given (files_used before)
 files_used (Vertex vertex before) = files_used before
 files_used (Inside b inner before) = with_file_of b inner (files_used before)
 
--- a value names the file of the labels' font
-abbrev pub is_font : Value → Bool
-is_font (value.Text text.LabelFont named) = true
-is_font _ = false
-
--- how many files the blocks before the last LABELFONT of a MAP use
-abbrev pub files_before_font : Entries → ℕ
-files_before_font Nothing = 0
-files_before_font (Said given before) = if is_font given then length (files_used before) else files_before_font before
-files_before_font (Vertex vertex before) = files_before_font before
-files_before_font (Inside b inner before) = files_before_font before
-
--- a MAP has its values, its SYMBOL and LAYER blocks, and the files that these use
+-- a MAP has its values, its SYMBOL and LAYER blocks, and the files that these and its fonts use
 abbrev pub map_tree : Entries → MapTree
 map_tree own = record {
   values = values own;
-  before_font = files_before_font own;
   symbols = map symbol_tree (blocks block.Symbol own);
   layers = map layer_tree (blocks block.Layer own);
   files = files_used own;

@@ -15,6 +15,7 @@ use Rattle.mapdefs.specs.declared.label.Position.TheVariants.{UpperLeft, UpperCe
 use Rattle.maplex.specs.declared.fault.Tail.TheVariants as tails
 use Rattle.maplex.specs.declared.token.Shape.TheVariants as shape
 use Rattle.maplex.specs.Token.{TokenValue}
+use Rattle.mapwords.specs.declared.font.FontKey.TheVariants as fonts
 use Rattle.mapwords.specs.declared.role.Block.{Block}
 use Rattle.mapwords.specs.declared.role.Block.TheVariants as block
 use Rattle.mapwords.specs.declared.role.Expected.{Expected}
@@ -154,6 +155,7 @@ pub data IsKeyword : Bool → Block → List ℕ → Expected → Type 0 where
   label_distance : (smooth : Bool) → IsKeyword smooth block.Label (codes "MINDISTANCE") (expected.Count counts.MinDistance)
   label_partials : (smooth : Bool) → IsKeyword smooth block.Label (codes "PARTIALS") (expected.Flag flags.Partials)
   label_outline_width : (smooth : Bool) → IsKeyword smooth block.Label (codes "OUTLINEWIDTH") (expected.Text texts.OutlineWidth)
+  label_font : (smooth : Bool) → IsKeyword smooth block.Label (codes "FONT") (expected.Text texts.Font)
   label_force : (smooth : Bool) → IsKeyword smooth block.Label (codes "FORCE") (expected.Flag flags.Force)
   feature_text : (smooth : Bool) → IsKeyword smooth block.Feature (codes "TEXT") (expected.Text texts.Text)
   feature_items : (smooth : Bool) → IsKeyword smooth block.Feature (codes "ITEMS") (expected.Text texts.Items)
@@ -199,7 +201,7 @@ pub data IsWritten : Bool → Block → Value → List TokenValue → Type 0 whe
   table : (smooth : Bool) (b : Block) (word given : List ℕ) (line : ℕ) → IsKeyword smooth b word expected.Table → is_table_name given ≡ true →
       IsWritten smooth b (value.Text texts.Data (named given line)) (bare line word ∷ quoted line given ∷ [])
   font : (smooth : Bool) (given : List ℕ) (line : ℕ) →
-      IsWritten smooth block.Map (value.Text texts.LabelFont (named given line)) (bare line (codes "CONFIG") ∷ quoted line (codes "LABELFONT") ∷ quoted line given ∷ [])
+      IsWritten smooth block.Map (value.Font fonts.Default (named given line)) (bare line (codes "CONFIG") ∷ quoted line (codes "LABELFONT") ∷ quoted line given ∷ [])
   formats : (smooth : Bool) (line : ℕ) →
       IsWritten smooth block.Map (value.Flag flags.Png true) (bare line (codes "CONFIG") ∷ quoted line (codes "WMS_FORMATS") ∷ quoted line (codes "image/png") ∷ [])
   systems : (smooth : Bool) (line : ℕ) →

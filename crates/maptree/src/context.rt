@@ -7,7 +7,7 @@ use mapwords::{Block, Expected};
 use std::alloc::AllocError;
 
 /// What a token is read as.
-#[derive(Clone, Copy)]
+#[derive(Drop)]
 pub enum Context {
     /// A keyword of a block.
     Keywords(Block),
@@ -18,7 +18,7 @@ pub enum Context {
 }
 
 /// How reading goes on after a token.
-#[derive(Clone, Copy)]
+#[derive(Drop)]
 pub enum Move {
     /// The next token is read in this context.
     GoesOn(Context),

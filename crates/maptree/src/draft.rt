@@ -1,8 +1,8 @@
 ghost use Rattle.std.specs.Prelude.{◌≡◌, OnOk};
 ghost use Rattle.maptree.specs.Draft.{fresh, new_map, new_layer, new_class, new_feature, noted_by_map, noted_by_feature, with_value, is_full};
 ghost use Rattle.maptree.specs.Entries.{has_effect};
-ghost use Rattle.maptree.specs.Tree.{is_font};
 
+use crate::files::add_font;
 use crate::parts::PartsDraft;
 use crate::tree::{ClassTree, LayerBody, MapTree};
 use mapdefs::{Items, Text};
@@ -41,16 +41,6 @@ fn has_effect(value: &Value) -> bool
     }
 }
 
-// Whether a value names the file of a font.
-fn is_font(value: &Value) -> bool
-    ensures { result ≡ is_font value.now }
-{
-    match value {
-        Value::Text(TextKeyword::LabelFont, _) => true,
-        _ => false,
-    }
-}
-
 impl MapTree {
     /// A MAP of which nothing was read.
     pub fn new(alloc: Global) -> Self
@@ -58,19 +48,18 @@ impl MapTree {
     {
         MapTree {
             values: Values::new(alloc),
-            before_font: 0,
             symbols: Capped::new(alloc),
             layers: Capped::new(alloc),
             files: Items::new(alloc),
         }
     }
 
-    // Notes a value of the MAP.
-    fn set(&mut self, value: Value) -> Result<(), AllocError>
+    // Notes a value of the MAP. That of a font names a file that is used.
+    fn set(&mut self, value: Value, alloc: Global) -> Result<(), AllocError>
         ensures { OnOk result (self.new ≡ noted_by_map value self.old) }
     {
-        if is_font(&value) {
-            self.before_font = self.files.len();
+        if let Value::Font(key, file) = &value {
+            add_font(&mut self.files, key, file, alloc)?;
         }
         self.values.push(value)
     }
@@ -152,14 +141,14 @@ impl Drafts {
 
     /// Notes a value of a block, after those that the block has already. After an error the drafts are of no
     /// further use.
-    pub fn set(&mut self, block: Block, value: Value) -> Result<(), AllocError>
+    pub fn set(&mut self, block: Block, value: Value, alloc: Global) -> Result<(), AllocError>
         ensures { OnOk result (self.new ≡ with_value block value self.old) }
     {
         if !has_effect(&value) {
             return Ok(());
         }
         match block {
-            Block::Map => self.map.set(value)?,
+            Block::Map => self.map.set(value, alloc)?,
             Block::Web | Block::WebMetadata => self.map.values.push(value)?,
             Block::Symbol => self.symbol.push(value)?,
             Block::Layer | Block::LayerMetadata => self.layer.values.push(value)?,

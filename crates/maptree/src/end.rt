@@ -1,6 +1,6 @@
 ghost use Rattle.std.specs.Prelude.{◌≡◌, ◌<◌, false, length, option_map, Ok, IfOk, OnOk, MatchResult};
 ghost use Rattle.mapdefs.specs.declared.limits.TheConstants.{MAX_SYMBOLS, MAX_LAYERS, MAX_CLASSES, MAX_STYLES, MAX_FEATURES};
-ghost use Rattle.maptree.specs.Data.{table_fault, with_named_file};
+ghost use Rattle.maptree.specs.Data.{table_fault};
 ghost use Rattle.maptree.specs.Draft.{is_full};
 ghost use Rattle.maptree.specs.End.{finished_layer, layer_end, symbol_end, map_end, class_end, style_end, label_end, feature_end, points_end, ends};
 ghost use Rattle.mapwords.specs.Fault.{IsErrorOf};
@@ -9,11 +9,12 @@ ghost use Rattle.maptree.specs.Name.{is_taken};
 ghost use Rattle.mapvalues.specs.Values.{geometry_in, last, text_in};
 
 use crate::draft::{Drafts, FeatureDraft};
+use crate::files::add_file;
 use crate::outline::map_fault;
 use crate::smoothing::discs_fault;
 use crate::symbol::{finished_symbol, missing_of_symbol, symbols_fault};
 use crate::tree::{ClassTree, FeatureTree, LayerBody, LayerTree};
-use mapdefs::{Duplicate, Geometry, Items};
+use mapdefs::{Duplicate, Geometry};
 use maplex::Token;
 use mapvalues::Values;
 use mapwords::{Block, Fault, Named, ParseFault, ParseKind, TextKeyword, fault_of};
@@ -80,16 +81,6 @@ fn finished_layer(
         table,
         body,
     })
-}
-
-// Adds the file of a symbol or of a layer to those that are used, if it has one.
-fn add_file(files: &mut Items<Named>, file: &Option<Named>, alloc: Global) -> Result<(), AllocError>
-    ensures { OnOk result (files.new ≡ with_named_file file.now files.old) }
-{
-    match file {
-        Some(file) => files.push(file.duplicate(alloc)?),
-        None => Ok(()),
-    }
 }
 
 impl Drafts {

@@ -3,20 +3,25 @@ ghost use Rattle.mapdefs.specs.declared.limits.TheConstants.{MAX_VERTICES};
 ghost use Rattle.mapwords.specs.Fault.{IsErrorOf};
 ghost use Rattle.mapwords.specs.declared.role.Block.{Block as BlockValue};
 ghost use Rattle.maptree.specs.declared.draft.Drafts.{Drafts as DraftsValue};
+ghost use Rattle.mapwords.specs.Given.{given_step, is_beyond};
 ghost use Rattle.mapwords.specs.Keyword.{keyword_at};
+ghost use Rattle.mapwords.specs.Value.{font_name_at};
+ghost use Rattle.maptree.specs.Data.{lacks_room};
 ghost use Rattle.maptree.specs.Parts.{vertex_count};
 ghost use Rattle.mapwords.specs.Table.{role_in, role_of};
 ghost use Rattle.maptree.specs.Smoothing.{is_smooth};
-ghost use Rattle.maptree.specs.Step.{read_end, read_keyword, note_step, read_value, coordinate_at, read_longitude, read_latitude, skip, read_pair, read_token};
+ghost use Rattle.maptree.specs.Step.{read_end, read_keyword, note_step, coordinate_at, read_longitude, read_latitude, skip, read_pair, read_token};
 
 use crate::context::{Context, Move};
 use crate::draft::Drafts;
+use crate::files::lacks_room;
 use crate::smoothing::is_smooth;
 use geom::{Coordinate, World};
 use maplex::Token;
 use mapwords::{
     Block, Expected, Fault, Keyword, ParseFault, ParseKind, Role, ValueStep, coordinate_in,
-    fault_of, is_early_end, is_end, is_value, pair_expects, role_in, role_of, value_step,
+    fault_of, font_name_at, is_early_end, is_end, is_value, pair_expects, role_in, role_of,
+    value_step,
 };
 use std::alloc::{AllocError, Global};
 
@@ -51,14 +56,23 @@ fn read_pair(block: Block, token: &Token) -> Result<Move, Fault>
     Ok(Move::Enters(Context::Values(block, expected)))
 }
 
-// Reads a token of a value, which isn't an END. What is read is still to be noted.
-fn read_step(expected: Expected, token: &Token, alloc: Global) -> Result<ValueStep, ParseFault>
-    ensures { (b : BlockValue) (d : DraftsValue) → MatchResult result
-        (λ step. read_value b expected d token.now ≡ note_step b (Ok step) d)
-        (IsErrorOf (read_value b expected d token.now)) }
+// Reads a token of a value, which isn't an END, nor the key of one font too many. What is read is still to be noted.
+fn read_step(
+    expected: &Expected,
+    is_too_many: bool,
+    token: &Token,
+    alloc: Global,
+) -> Result<ValueStep, ParseFault>
+    ensures { let given = given_step is_too_many expected.now token.now in
+        (b : BlockValue) (d : DraftsValue) → MatchResult result
+        (λ step. note_step b given d ≡ note_step b (Ok step) d)
+        (IsErrorOf (note_step b given d)) }
 {
-    if is_early_end(&expected, token) {
+    if is_early_end(expected, token) {
         return Err(fault_of(ParseKind::MissingValue, token).into());
+    }
+    if is_too_many {
+        return Err(fault_of(ParseKind::Limit, token).into());
     }
     value_step(expected, token, alloc)
 }
@@ -113,14 +127,29 @@ impl Drafts {
         }
     }
 
+    // Whether the token of a value is the key of a font that the map has no room for.
+    fn is_too_many(&self, block: Block, expected: &Expected, token: &Token) -> bool
+        ensures { result ≡ is_beyond (lacks_room block self.now.map.files) (font_name_at expected.now token.now) }
+    {
+        match font_name_at(expected, token) {
+            Some(name) => lacks_room(block, self.map.files.as_slice(), name),
+            None => false,
+        }
+    }
+
     // Notes a step of a value of a block.
-    fn note_step(&mut self, block: Block, step: ValueStep) -> Result<Move, AllocError>
+    fn note_step(
+        &mut self,
+        block: Block,
+        step: ValueStep,
+        alloc: Global,
+    ) -> Result<Move, AllocError>
         ensures { IfOk result (λ next. note_step block (Ok step) self.old ≡ Ok (next, self.new)) }
     {
         match step {
             ValueStep::More(next) => Ok(Move::GoesOn(Context::Values(block, next))),
             ValueStep::Whole(value) => {
-                self.set(block, value)?;
+                self.set(block, value, alloc)?;
                 Ok(Move::Leaves)
             }
         }
@@ -180,13 +209,13 @@ impl Drafts {
             (λ next. read_token context.now self.old token.now ≡ Ok (next, self.new))
             (IsErrorOf (read_token context.now self.old token.now)) }
     {
-        match *context {
-            Context::Keywords(block) => match block {
+        match context {
+            Context::Keywords(block) => match *block {
                 Block::Points => self.read_longitude(token, alloc),
                 Block::Validation => Ok(read_pair(Block::Validation, token)?),
                 Block::WebMetadata => Ok(read_pair(Block::WebMetadata, token)?),
                 Block::LayerMetadata => Ok(read_pair(Block::LayerMetadata, token)?),
-                Block::Projection | Block::Skipped | Block::SkippedLabel => Ok(skip(block, token)),
+                Block::Projection | Block::Skipped | Block::SkippedLabel => Ok(skip(*block, token)),
                 Block::Map
                 | Block::Web
                 | Block::Symbol
@@ -194,13 +223,14 @@ impl Drafts {
                 | Block::Class
                 | Block::Style
                 | Block::Label
-                | Block::Feature => self.read_keyword(block, token, alloc),
+                | Block::Feature => self.read_keyword(*block, token, alloc),
             },
             Context::Values(block, expected) => {
-                let step = read_step(expected, token, alloc)?;
-                Ok(self.note_step(block, step)?)
+                let is_too_many = self.is_too_many(*block, expected, token);
+                let step = read_step(expected, is_too_many, token, alloc)?;
+                Ok(self.note_step(*block, step, alloc)?)
             }
-            Context::Latitude(longitude) => self.read_latitude(longitude, token),
+            Context::Latitude(longitude) => self.read_latitude(*longitude, token),
         }
     }
 }

@@ -3,19 +3,26 @@ use mapdefs::{
     Geometry, Items, MAX_CLASSES, MAX_FEATURES, MAX_LAYERS, MAX_STYLES, MAX_SYMBOLS, Text,
 };
 use mapvalues::Values;
-use mapwords::{Capped, Named};
+use mapwords::{Capped, FontKey, Named};
 
 /// A MAP as it is written.
 #[derive(Drop)]
 pub struct MapTree {
     /// Its values, and those of its WEB blocks and their METADATA.
     pub values: Values,
-    /// How many files the symbols and layers before its last LABELFONT use.
-    pub before_font: usize,
     pub symbols: Capped<SymbolTree, MAX_SYMBOLS>,
     pub layers: Capped<LayerTree, MAX_LAYERS>,
-    /// The files that the symbols and the layers use, in the order of these.
-    pub files: Items<Named>,
+    /// The files that it uses, in the order of their uses: those of the symbols, of the layers, and of the fonts, of which each
+    /// has one.
+    pub files: Items<UsedFile>,
+}
+
+/// A file that a MAP uses: of a symbol's pixmap or a layer's table, or of a font.
+#[derive(Drop)]
+pub struct UsedFile {
+    pub file: Named,
+    /// Which font it is of, if it is of one.
+    pub font: Option<FontKey>,
 }
 
 /// A SYMBOL as it is written.

@@ -8,7 +8,9 @@ use Rattle.maptree.specs.declared.context.Move.{Move}
 use Rattle.maptree.specs.declared.draft.Drafts.{Drafts}
 use Rattle.mapwords.specs.declared.fault.Fault.{Fault}
 use Rattle.mapwords.specs.Keyword.{keyword_at}
-use Rattle.maptree.specs.Step.{skip, read_token}
+use Rattle.mapwords.specs.Fault.{IsErrorOf}
+use Rattle.mapwords.specs.Given.{given_step}
+use Rattle.maptree.specs.Step.{skip, note_step, read_token}
 use Rattle.mapwords.specs.Table.{role_of}
 use Rattle.maptree.proofs.draft.Drafts.read_token.Goals as goal
 
@@ -26,4 +28,6 @@ returns-in-Projection c =
 pub returns-in_err-step-in-Values : goal.returns-in_err-step-in-Values
 returns-in_err-step-in-Values c =
     let p = err_from_is_err_and c.from_residual-in_err-step-in-Values.result c.from_residual-in_err-step-in-Values.ensures.1 in
-    rw (c.in-Values.is, p.1, p.2) (c.in_err-step-in-Values.ensures c.in-Values.block c.args.self.now)
+    rw (c.in-Values.is, p.1, p.2)
+    (subst (λ too_many. IsErrorOf (note_step c.in-Values.block (given_step too_many c.in-Values.expected c.args.token.now) c.args.self.now) c.in_err-step-in-Values.field-0.0)
+    c.is_too_many-is_too_many.ensures (c.in_err-step-in-Values.ensures c.in-Values.block c.args.self.now))

@@ -1,10 +1,14 @@
-use Rattle.std.proofs.Common.{sym}
+use Rattle.std.proofs.Common.{refl, sym}
 use Rattle.maptree.proofs.Joining.{answer-open, answer-broken}
+use Rattle.maptree.proofs.reader.Reader.finish.Goals.{in-None, in-Some}
 use Rattle.maptree.proofs.reader.Reader.finish.Goals as goal
 
-pub returns-in-Some : goal.returns-in-Some
-returns-in-Some c =
-    rw (c.missing.ensures, c.in-Some.ensures) (sym (answer-open c.args.tail c.in-Some.field-0 c.pop.new.self c.args.self.now.drafts))
+pub returns-after-pop : goal.returns-after-pop
+returns-after-pop c = elim c.match-pop.branch [
+  | in-None w ↦ rw (w.result-is, w.take_map.ensures.map, c.in-Ends.is, w.in-None.ensures.0) refl
+  | in-Some w ↦
+      rw (w.result-is, w.missing.ensures, w.in-Some.ensures) (sym (answer-open c.args.tail w.in-Some.field-0 c.pop.new.self c.args.self.now.drafts))
+]
 
 pub returns-in-Breaks : goal.returns-in-Breaks
 returns-in-Breaks c =
