@@ -2,8 +2,8 @@ use mapwords::{CountKeyword, Expected, OnlyWord};
 use std::alloc::{AllocError, Global};
 
 // What is expected, where that is one text.
-fn plain_text(expected: Expected) -> &'static str {
-    match expected {
+fn plain_text(expected: &Expected) -> &'static str {
+    match *expected {
         Expected::Geometry => "POINT, LINE or POLYGON",
         Expected::Table =>
             "the name of a file that ends in .csv: MapServer's other sources aren't supported",
@@ -26,14 +26,17 @@ fn plain_text(expected: Expected) -> &'static str {
             "image/png, image/x-portable-pixmap and image/x-portable-arbitrarymap, with spaces between them",
         Expected::Systems => "EPSG:3857 alone",
         Expected::Smoothing => "1, 2, 3 or 4",
+        Expected::ConfigKey =>
+            "a key, as LABELFONT, a space and a name of letters, digits, - and _",
+        Expected::FontFile(_) => "the name of a file",
         // Texts, settings, and what has no effect.
         _ => "a word or a quoted text",
     }
 }
 
 /// What is expected where a value is wrong. The error is that memory was refused.
-pub fn expected_text(alloc: Global, expected: Expected) -> Result<String, AllocError> {
-    match expected {
+pub fn expected_text(alloc: Global, expected: &Expected) -> Result<String, AllocError> {
+    match *expected {
         Expected::Count(CountKeyword::MinDistance) => {
             let most = CountKeyword::MinDistance.most();
             format!(in alloc; "a count from -1 to {most}")

@@ -80,7 +80,7 @@ impl<'a> Walker<'a> {
     }
 
     // Keeps what a message may need, before a token of a context.
-    fn note(&mut self, context: Context, token: &Token<'a>)
+    fn note(&mut self, context: &Context, token: &Token<'a>)
         ensures { standing self.new.openings self.new.drafts ≡ standing self.old.openings self.old.drafts }
     {
         self.hints.quoted = self.hints.quoted.after(token);
@@ -90,7 +90,7 @@ impl<'a> Walker<'a> {
                 self.hints.name = token.text;
             }
             Context::Keywords(block) if is_end(token) => {
-                self.hints.missing = self.drafts.missing_part(block);
+                self.hints.missing = self.drafts.missing_part(*block);
             }
             Context::Keywords(_) | Context::Values(..) | Context::Latitude(_) => {}
         }
@@ -131,7 +131,7 @@ impl<'a> Walker<'a> {
                 kind: ParseKind::UnknownWord,
             });
         };
-        self.note(inner.context, token);
+        self.note(&inner.context, token);
         self.read_in(inner, token, alloc)
     }
 

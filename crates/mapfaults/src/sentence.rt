@@ -8,8 +8,8 @@ use crate::foreign::advice;
 use crate::openings::Opening;
 use expressions::{ExprError, read};
 use mapdefs::{
-    MAX_CLASSES, MAX_FEATURES, MAX_ITEMS, MAX_LAYERS, MAX_OUTLINE_WIDTH, MAX_STYLES, MAX_SYMBOLS,
-    MAX_VERTICES, Text,
+    MAX_CLASSES, MAX_FEATURES, MAX_FONT_NAMES, MAX_ITEMS, MAX_LAYERS, MAX_OUTLINE_WIDTH,
+    MAX_STYLES, MAX_SYMBOLS, MAX_VERTICES, Text,
 };
 use maplex::{ByteFault, LexKind, Shape, Token, byte_fault};
 use maptree::Context;
@@ -73,7 +73,7 @@ fn block(alloc: Global, openings: &[Opening]) -> Result<String, AllocError> {
 // The message on a keyword of MapServer that isn't read in a block. There is none on another token.
 fn foreign_word(
     alloc: Global,
-    context: Context,
+    context: &Context,
     token: &Token,
     shown: &str,
 ) -> Result<Option<String>, AllocError> {
@@ -86,7 +86,7 @@ fn foreign_word(
         )?;
         return Ok(Some(message));
     }
-    match advice(alloc, block, token.text)? {
+    match advice(alloc, *block, token.text)? {
         Some(advice) => {
             let message = format!(in alloc; "{shown} is MapServer's and isn't supported{advice}")?;
             Ok(Some(message))
@@ -99,7 +99,7 @@ fn foreign_word(
 fn no_keyword(alloc: Global, opening: &Opening, token: &Token) -> Result<String, AllocError> {
     let shown = found(alloc, token)?;
     let name = opener(alloc, opening.word)?;
-    match foreign_word(alloc, opening.context, token, shown.as_str())? {
+    match foreign_word(alloc, &opening.context, token, shown.as_str())? {
         Some(message) => Ok(message),
         None => format!(in alloc; "{shown} is no keyword of {name}"),
     }
@@ -177,7 +177,7 @@ fn wrong_value(
     token: &str,
 ) -> Result<String, AllocError> {
     let name = opener(alloc, inner.word)?;
-    match inner.context {
+    match &inner.context {
         Context::Values(_, expected) => {
             let expected = expected_text(alloc, expected)?;
             format!(in alloc; "{token} is no value of {name}, which takes {expected}")
@@ -200,8 +200,8 @@ fn wrong_value(
 }
 
 // The message on an END before a value.
-fn no_value(alloc: Global, expected: Expected, name: &str) -> Result<String, AllocError> {
-    match expected {
+fn no_value(alloc: Global, expected: &Expected, name: &str) -> Result<String, AllocError> {
+    match *expected {
         Expected::Green(..)
         | Expected::Blue(..)
         | Expected::South(..)
@@ -216,7 +216,7 @@ fn no_value(alloc: Global, expected: Expected, name: &str) -> Result<String, All
 // The message on an END before a required keyword or value.
 fn missing_value(alloc: Global, e: &Explained, inner: &Opening) -> Result<String, AllocError> {
     let block = block(alloc, e.openings.as_slice())?;
-    match inner.context {
+    match &inner.context {
         Context::Values(_, expected) => {
             let name = opener(alloc, inner.word)?;
             no_value(alloc, expected, name.as_str())
@@ -252,7 +252,11 @@ fn more_blocks(alloc: Global, block: &str, word: &str) -> Result<String, AllocEr
 
 // The message on what is more than a map may have.
 fn limit(alloc: Global, e: &Explained, inner: &Opening, word: &str) -> Result<String, AllocError> {
-    match (inner.context, e.openings.as_slice()) {
+    match (&inner.context, e.openings.as_slice()) {
+        (Context::Values(_, Expected::ConfigKey), openings) => {
+            let block = block(alloc, openings)?;
+            format!(in alloc; "{block} has more than {MAX_FONT_NAMES} fonts with names")
+        }
         (Context::Values(..), _) => {
             let name = opener(alloc, inner.word)?;
             format!(in alloc; "{name} names more than {MAX_ITEMS} items")
