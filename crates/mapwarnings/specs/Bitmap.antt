@@ -1,5 +1,5 @@
 -- Bitmaps of a map that its smoothed pictures show too small (docs/MAPFILE.md, "Warnings").
-use Rattle.std.specs.Prelude.{ℕ, ◌+◌, ◌*◌, ◌&&◌, nat_lt, max, Bool, true, false, List, [], ◌∷◌, ◌++◌, Option, None, Some}
+use Rattle.std.specs.Prelude.{ℕ, ◌+◌, ◌*◌, ◌&&◌, nat_lt, max, Bool, true, false, List, [], ◌∷◌, ◌++◌}
 use Rattle.mapdefs.specs.declared.font.FontFields.{FontFields}
 use Rattle.mapdefs.specs.declared.map.MapFields.{MapFields}
 use Rattle.mapdefs.specs.declared.symbol.Symbol.{Symbol}
@@ -12,7 +12,8 @@ use Rattle.mapwarnings.specs.declared.bitmap.TheConstants.{LEAST_HEIGHT, LEAST_S
 
 -- the least pixels of the picture that a bitmap is to be shown as: letters lower can't be read, and a shorter symbol is a speck
 abbrev pub least_of : Bitmap → ℕ
-least_of bitmap.Font = LEAST_HEIGHT
+least_of bitmap.OnlyFont = LEAST_HEIGHT
+least_of (bitmap.Font number) = LEAST_HEIGHT
 least_of (bitmap.Symbol number) = LEAST_SIDE
 
 -- a map of a factor shows a bitmap of so many pixels as fewer than that; one of factor 1 shows each as it is
@@ -27,10 +28,15 @@ if_small false small = []
 abbrev pub small_bitmap : ℕ → Bitmap → ℕ → List SmallBitmap
 small_bitmap factor bitmap size = if_small (is_small factor bitmap size) (record { bitmap = bitmap; size = size; factor = factor })
 
--- the font, by its height
-abbrev pub small_font : ℕ → Option FontFields → List SmallBitmap
-small_font factor None = []
-small_font factor (Some font) = small_bitmap factor bitmap.Font font.bounds.height
+-- some fonts by their heights, of which the first has this number
+abbrev pub numbered_fonts : ℕ → ℕ → List FontFields → List SmallBitmap
+numbered_fonts factor number [] = []
+numbered_fonts factor number (font ∷ fonts) = small_bitmap factor (bitmap.Font number) font.bounds.height ++ numbered_fonts factor (number + 1) fonts
+
+-- the fonts of a map: the only one has no number
+abbrev pub small_fonts : ℕ → List FontFields → List SmallBitmap
+small_fonts factor (font ∷ []) = small_bitmap factor bitmap.OnlyFont font.bounds.height
+small_fonts factor fonts = numbered_fonts factor 1 fonts
 
 -- a symbol of a number, by the longer side of its pixmap; a disc is no bitmap
 abbrev pub small_symbol : ℕ → ℕ → SymbolShape → List SmallBitmap
@@ -42,6 +48,6 @@ abbrev pub small_symbols : ℕ → ℕ → List Symbol → List SmallBitmap
 small_symbols factor number [] = []
 small_symbols factor number (symbol ∷ symbols) = small_symbol factor number symbol.shape ++ small_symbols factor (number + 1) symbols
 
--- all of a map: its font, and then its symbols in the order of the mapfile, numbered from 1
+-- all of a map: its fonts, and then its symbols in the order of the mapfile, numbered from 1
 abbrev pub small_bitmaps : MapFields → List SmallBitmap
-small_bitmaps map = small_font map.smoothing map.font ++ small_symbols map.smoothing 1 map.symbols
+small_bitmaps map = small_fonts map.smoothing map.fonts ++ small_symbols map.smoothing 1 map.symbols

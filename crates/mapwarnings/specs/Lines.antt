@@ -30,6 +30,7 @@ message_of concern.UnknownLabelItem = codes " has a LABELITEM that is none of it
 message_of concern.UnknownClassItem = codes " has a CLASSITEM that is none of its items"
 message_of concern.UnknownItem = codes " has an EXPRESSION on an item that is none of its items"
 message_of concern.NoFont = codes " has a LABEL, and the map has no LABELFONT"
+message_of concern.UnknownFont = codes " has a FONT that is none of the map's fonts"
 message_of concern.NoClass = codes " has features and no CLASS"
 message_of concern.BareClass = codes " has a CLASS without STYLE and LABEL"
 
@@ -41,14 +42,16 @@ marked = codes ": warning: "
 unfoldable pub warning_line : List ℕ → Warning → List ℕ
 warning_line name w = name ++ (marked ++ (subject_of w.layer ++ (message_of w.concern ++ codes "\n")))
 
--- the keyword of a bitmap, and the number of a symbol
+-- the keyword of a bitmap, and its number where there are several
 unfoldable pub keyword_of : Bitmap → List ℕ
-keyword_of bitmap.Font = codes "LABELFONT"
+keyword_of bitmap.OnlyFont = codes "LABELFONT"
+keyword_of (bitmap.Font number) = codes "LABELFONT " ++ decimal number
 keyword_of (bitmap.Symbol number) = codes "SYMBOL " ++ decimal number
 
 -- which of its sides is measured
 unfoldable pub side_of : Bitmap → List ℕ
-side_of bitmap.Font = codes " pixels high"
+side_of bitmap.OnlyFont = codes " pixels high"
+side_of (bitmap.Font number) = codes " pixels high"
 side_of (bitmap.Symbol number) = codes " pixels long"
 
 -- how large a bitmap is

@@ -1,6 +1,7 @@
 -- What in a layer has no effect, since something that it needs is missing (docs/MAPFILE.md, "Warnings").
-use Rattle.std.specs.Prelude.{◌==◌, ◌&&◌, ◌||◌, not, ℕ, Bool, false, List, length, Option, None, Some, is_none, is_some}
+use Rattle.std.specs.Prelude.{◌==◌, ◌&&◌, ◌||◌, not, ℕ, Bool, false, List, length, Option, None, Some, is_none}
 use Rattle.std.specs.List.{list_any}
+use Rattle.std.specs.Option.{option_map_or}
 use Rattle.std.specs.Str.{str_eq_ignore_ascii_case}
 use Rattle.mapdefs.specs.declared.class.ClassFields.{ClassFields}
 use Rattle.mapdefs.specs.declared.class.Rule.{Rule}
@@ -8,6 +9,7 @@ use Rattle.mapdefs.specs.declared.class.Rule.TheVariants.{Logic}
 use Rattle.mapdefs.specs.declared.expr.Expr.{Expr, Or', And', Not', Compare, Row_of-Expr, end_of-Expr, more_of-Expr}
 use Rattle.mapdefs.specs.declared.expr.Operand.{Operand}
 use Rattle.mapdefs.specs.declared.expr.Operand.TheVariants as operand
+use Rattle.mapdefs.specs.declared.label.LabelFields.{LabelFields}
 use Rattle.mapdefs.specs.declared.layer.LayerFields.{LayerFields}
 
 -- one of some items has this name, without regard to case of ASCII letters
@@ -43,9 +45,13 @@ abbrev pub lacks_of_rule : List (List ℕ) → Rule → Bool
 lacks_of_rule items (Logic e) = lacks_in items e
 lacks_of_rule items rule = false
 
--- some class of a layer has a LABEL
-abbrev pub has_label : LayerFields → Bool
-has_label layer = list_any (λ (class : ClassFields). is_some class.label) layer.classes
+-- a class has a label without a font
+abbrev pub is_fontless : ClassFields → Bool
+is_fontless class = option_map_or (λ (label : LabelFields). is_none label.font) class.label false
+
+-- a class has a label whose FONT is none of the map's
+abbrev pub lacks_font : ClassFields → Bool
+lacks_font class = option_map_or (λ (label : LabelFields). label.lacks_font) class.label false
 
 -- a class paints and labels nothing
 abbrev pub is_bare : ClassFields → Bool

@@ -1,5 +1,5 @@
 -- What in the service and the layers of a map isn't as clients need it, though the map has no fault (docs/MAPFILE.md, "Warnings").
-use Rattle.std.specs.Prelude.{◌==◌, ◌&&◌, ◌||◌, not, ℕ, ◌+◌, pos, neg_ℤ, int_lt, is_some, nat_eq, Bool, true, false, List, [], ◌∷◌, ◌++◌, length, None, Some, codes}
+use Rattle.std.specs.Prelude.{◌==◌, ◌&&◌, ◌||◌, not, ℕ, ◌+◌, pos, neg_ℤ, int_lt, nat_eq, Bool, true, false, List, [], ◌∷◌, ◌++◌, length, None, Some, codes}
 use Rattle.std.specs.Cmp.Lexicographic.{pointwise}
 use Rattle.std.specs.List.{list_any}
 use Rattle.geom.specs.World.{Area}
@@ -8,7 +8,7 @@ use Rattle.mapdefs.specs.declared.map.MapFields.{MapFields}
 use Rattle.mapdefs.specs.declared.layer.LayerFields.{LayerFields}
 use Rattle.mapwords.specs.Rule.{is_comma}
 use Rattle.xmltext.specs.Characters.{has_forbidden}
-use Rattle.mapwarnings.specs.Unused.{has_label, is_bare, is_unclassed, lacks_named, lacks_of_rule}
+use Rattle.mapwarnings.specs.Unused.{is_bare, is_fontless, is_unclassed, lacks_font, lacks_named, lacks_of_rule}
 use Rattle.mapwarnings.specs.declared.warning.Concern.{Concern}
 use Rattle.mapwarnings.specs.declared.warning.Concern.TheVariants as concern
 use Rattle.mapwarnings.specs.declared.warning.Warning.{Warning}
@@ -49,21 +49,26 @@ item_warnings number layer =
     ++ (warned (lacks_named layer.items layer.classitem) (on_layer number concern.UnknownClassItem)
     ++ warned (list_any (λ (class : ClassFields). lacks_of_rule layer.items class.rule) layer.classes) (on_layer number concern.UnknownItem))
 
--- those on what is never drawn: labels without a font, features without a class, a class without a style and a label
-abbrev pub drawing_warnings : Bool → ℕ → LayerFields → List Warning
-drawing_warnings has_font number layer =
-    warned (not has_font && has_label layer) (on_layer number concern.NoFont)
-    ++ (warned (is_unclassed layer) (on_layer number concern.NoClass)
-    ++ warned (list_any is_bare layer.classes) (on_layer number concern.BareClass))
+-- those on the fonts of labels: there is none, or not the one that is named
+abbrev pub font_warnings : ℕ → LayerFields → List Warning
+font_warnings number layer =
+    warned (list_any is_fontless layer.classes) (on_layer number concern.NoFont)
+    ++ warned (list_any lacks_font layer.classes) (on_layer number concern.UnknownFont)
+
+-- those on what is never drawn: features without a class, a class without a style and a label
+abbrev pub drawing_warnings : ℕ → LayerFields → List Warning
+drawing_warnings number layer =
+    warned (is_unclassed layer) (on_layer number concern.NoClass)
+    ++ warned (list_any is_bare layer.classes) (on_layer number concern.BareClass)
 
 -- all of those on a layer of a number
-abbrev pub layer_warnings : Bool → ℕ → LayerFields → List Warning
-layer_warnings has_font number layer = text_warnings number layer ++ (item_warnings number layer ++ drawing_warnings has_font number layer)
+abbrev pub layer_warnings : ℕ → LayerFields → List Warning
+layer_warnings number layer = text_warnings number layer ++ (item_warnings number layer ++ (font_warnings number layer ++ drawing_warnings number layer))
 
 -- those on some layers, of which the first has this number
-abbrev pub layers_warnings : Bool → ℕ → List LayerFields → List Warning
-layers_warnings has_font number [] = []
-layers_warnings has_font number (layer ∷ layers) = layer_warnings has_font number layer ++ layers_warnings has_font (number + 1) layers
+abbrev pub layers_warnings : ℕ → List LayerFields → List Warning
+layers_warnings number [] = []
+layers_warnings number (layer ∷ layers) = layer_warnings number layer ++ layers_warnings (number + 1) layers
 
 -- those on the service: its address, its title and its extent
 abbrev pub service_warnings : MapFields → List Warning
@@ -75,4 +80,4 @@ service_warnings map =
 
 -- both: those on the service, and then those on the layers in the order of the mapfile
 abbrev pub warnings : MapFields → List Warning
-warnings map = service_warnings map ++ layers_warnings (is_some map.font) 1 map.layers
+warnings map = service_warnings map ++ layers_warnings 1 map.layers

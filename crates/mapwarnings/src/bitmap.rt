@@ -1,8 +1,8 @@
 ghost use Rattle.std.specs.Prelude.{◌≡◌, ◌++◌, ◌<◌, ◌≤◌, ◌^◌, max, IfOk, OnOk};
-ghost use Rattle.mapwarnings.specs.Bitmap.{is_small, least_of, small_bitmap, small_bitmaps, small_font, small_symbol, small_symbols};
+ghost use Rattle.mapwarnings.specs.Bitmap.{is_small, least_of, numbered_fonts, small_bitmap, small_bitmaps, small_fonts, small_symbol, small_symbols};
 
 use geom::Factor;
-use mapdefs::{Font, Map, Pixmap, Shared, Symbol, SymbolShape};
+use mapdefs::{Font, Map, Pixmap, Symbol, SymbolShape};
 use std::alloc::{AllocError, Global};
 
 /// How many pixels of the picture letters have at least that can be read.
@@ -14,8 +14,10 @@ pub const LEAST_SIDE: u16 = 4;
 /// A bitmap of a map.
 #[derive(Clone, Copy)]
 pub enum Bitmap {
-    /// The font of the labels.
-    Font,
+    /// The font of the labels, where there is one.
+    OnlyFont,
+    /// The font of a number, counted from 1, where there are several.
+    Font(usize),
     /// The symbol of a number, counted from 1.
     Symbol(usize),
 }
@@ -38,7 +40,7 @@ impl Bitmap {
         ensures most { result ≤ LEAST_HEIGHT }
     {
         match self {
-            Bitmap::Font => LEAST_HEIGHT,
+            Bitmap::OnlyFont | Bitmap::Font(_) => LEAST_HEIGHT,
             Bitmap::Symbol(_) => LEAST_SIDE,
         }
     }
@@ -71,20 +73,34 @@ fn add_small(
     Ok(())
 }
 
-// Adds the font, where it is shown too small.
-fn add_font(
+// How many pixels a font is high.
+fn height_of(font: &Font) -> u16
+    ensures { result ≡ font.now.bounds.height }
+{
+    u16::from(font.get().bounds.height)
+}
+
+// Adds those of some fonts that are shown too small. The first has the number 1.
+fn add_numbered(
     out: &mut Vec<SmallBitmap>,
     factor: Factor,
-    font: &Option<Shared<Font>>,
+    fonts: &[Font],
 ) -> Result<(), AllocError>
-    ensures { OnOk result (out.new.items ≡ out.old.items ++ small_font factor font.now) }
+    ensures { OnOk result (out.new.items ≡ out.old.items ++ numbered_fonts factor 1 fonts.now) }
 {
-    match font {
-        Some(font) => {
-            let height = font.get().get().bounds.height;
-            add_small(out, factor, Bitmap::Font, u16::from(height))
-        }
-        None => Ok(()),
+    for (index, font) in fonts.iter().enumerate() {
+        add_small(out, factor, Bitmap::Font(index + 1), height_of(font))?;
+    }
+    Ok(())
+}
+
+// Adds those of a map's fonts that are shown too small.
+fn add_fonts(out: &mut Vec<SmallBitmap>, factor: Factor, fonts: &[Font]) -> Result<(), AllocError>
+    ensures { OnOk result (out.new.items ≡ out.old.items ++ small_fonts factor fonts.now) }
+{
+    match fonts {
+        [font] => add_small(out, factor, Bitmap::OnlyFont, height_of(font)),
+        _ => add_numbered(out, factor, fonts),
     }
 }
 
@@ -127,14 +143,14 @@ fn add_symbols(
     Ok(())
 }
 
-/// The bitmaps of a map that its smoothed pictures show too small: the font first, and then symbols in their order. A map
+/// The bitmaps of a map that its smoothed pictures show too small: fonts first, and then symbols, both in their order. A map
 /// that isn't smoothed has none. The error is that memory was refused.
 pub fn small_bitmaps(alloc: Global, map: &Map) -> Result<Vec<SmallBitmap>, AllocError>
     ensures { IfOk result (λ found. found.items ≡ small_bitmaps map.now) }
 {
     let map = map.get();
     let mut out = Vec::new(alloc);
-    add_font(&mut out, map.smoothing, &map.font)?;
+    add_fonts(&mut out, map.smoothing, map.fonts.as_slice())?;
     add_symbols(&mut out, map.smoothing, map.symbols.as_slice())?;
     Ok(out)
 }

@@ -61,7 +61,7 @@ fn add_lines(out: &mut Vec<u8>, name: &str, warnings: &[Warning]) -> Result<(), 
     Ok(())
 }
 
-// Adds the keyword of a bitmap, and the number of a symbol.
+// Adds the keyword of a bitmap, and its number where there are several.
 #[tactic(auto, unfolding(crate::specs::Lines::keyword_of))]
 fn add_keyword(out: &mut Vec<u8>, bitmap: Bitmap) -> Result<(), AllocError>
     ensures { OnOk result (out.new.items ≡ out.old.items ++ keyword_of bitmap) }
@@ -71,7 +71,11 @@ fn add_keyword(out: &mut Vec<u8>, bitmap: Bitmap) -> Result<(), AllocError>
             out.extend_from_slice(b"SYMBOL ")?;
             out.extend_from_slice(Buffer::new().format(number).as_bytes())
         }
-        Bitmap::Font => out.extend_from_slice(b"LABELFONT"),
+        Bitmap::OnlyFont => out.extend_from_slice(b"LABELFONT"),
+        Bitmap::Font(number) => {
+            out.extend_from_slice(b"LABELFONT ")?;
+            out.extend_from_slice(Buffer::new().format(number).as_bytes())
+        }
     }
 }
 
@@ -81,7 +85,7 @@ fn side(bitmap: Bitmap) -> &'static str
     ensures { result.now ≡ side_of bitmap }
 {
     match bitmap {
-        Bitmap::Font => " pixels high",
+        Bitmap::OnlyFont | Bitmap::Font(_) => " pixels high",
         Bitmap::Symbol(_) => " pixels long",
     }
 }

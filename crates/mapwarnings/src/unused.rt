@@ -1,6 +1,6 @@
 ghost use Rattle.std.specs.Prelude.{◌≡◌};
 ghost use Rattle.std.specs.List.{list_any};
-ghost use Rattle.mapwarnings.specs.Unused.{has_item, has_label, is_bare, is_unclassed, lacks_in, lacks_named, lacks_of_rule, lacks_side};
+ghost use Rattle.mapwarnings.specs.Unused.{has_item, is_bare, is_fontless, is_unclassed, lacks_font, lacks_in, lacks_named, lacks_of_rule, lacks_side};
 
 use mapdefs::{ClassFields, Expr, LayerFields, Operand, Rule, Text};
 
@@ -69,12 +69,24 @@ pub fn lacks_of_rule(items: &[Text], rule: &Rule) -> bool
     }
 }
 
-/// Whether some class of a layer has a LABEL.
-pub fn has_label(layer: &LayerFields) -> bool
-    ensures { result ≡ has_label layer.now }
+/// Whether a class has a label without a font.
+pub fn is_fontless(class: &ClassFields) -> bool
+    ensures { result ≡ is_fontless class.now }
 {
-    let classes = layer.classes.as_slice();
-    classes.iter().any(|class| class.get().label.is_some())
+    match &class.label {
+        Some(label) => label.get().font.is_none(),
+        None => false,
+    }
+}
+
+/// Whether a class has a label whose FONT is none of the map's.
+pub fn lacks_font(class: &ClassFields) -> bool
+    ensures { result ≡ lacks_font class.now }
+{
+    match &class.label {
+        Some(label) => label.get().lacks_font,
+        None => false,
+    }
 }
 
 /// Whether a class paints and labels nothing.

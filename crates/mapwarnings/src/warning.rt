@@ -1,11 +1,11 @@
 ghost use Rattle.std.specs.Prelude.{◌≡◌, ◌++◌, IfOk, OnOk};
 ghost use Rattle.std.specs.List.{list_any};
 ghost use Rattle.mapwords.specs.Rule.{is_comma};
-ghost use Rattle.mapwarnings.specs.Unused.{is_bare, lacks_of_rule};
-ghost use Rattle.mapwarnings.specs.Warning.{drawing_warnings, is_beyond_degrees, is_default_address, item_warnings, layer_warnings, layers_warnings, service_warnings, text_warnings, warned, warnings};
+ghost use Rattle.mapwarnings.specs.Unused.{is_bare, is_fontless, lacks_font, lacks_of_rule};
+ghost use Rattle.mapwarnings.specs.Warning.{drawing_warnings, font_warnings, is_beyond_degrees, is_default_address, item_warnings, layer_warnings, layers_warnings, service_warnings, text_warnings, warned, warnings};
 ghost use Rattle.mapwarnings.specs.Lines.{message_of};
 
-use crate::unused::{has_label, is_bare, is_unclassed, lacks_named, lacks_of_rule};
+use crate::unused::{is_bare, is_fontless, is_unclassed, lacks_font, lacks_named, lacks_of_rule};
 use geom::{Micro, WorldBox};
 use mapdefs::{Class, Layer, LayerFields, Map, MapFields, Text};
 use std::alloc::{AllocError, Global};
@@ -34,8 +34,10 @@ pub enum Concern {
     UnknownClassItem,
     /// An item in the expression of a class is none of the layer's.
     UnknownItem,
-    /// A class has a label, and the map no font.
+    /// A class has a label without a font, since the map has none for those that name none.
     NoFont,
+    /// A class has a label that names a font which the map doesn't have.
+    UnknownFont,
     /// The layer has features, and no class that they could be of.
     NoClass,
     /// A class paints and labels nothing.
@@ -73,6 +75,7 @@ impl Concern {
             Concern::UnknownClassItem => " has a CLASSITEM that is none of its items",
             Concern::UnknownItem => " has an EXPRESSION on an item that is none of its items",
             Concern::NoFont => " has a LABEL, and the map has no LABELFONT",
+            Concern::UnknownFont => " has a FONT that is none of the map's fonts",
             Concern::NoClass => " has features and no CLASS",
             Concern::BareClass => " has a CLASS without STYLE and LABEL",
         }
@@ -170,19 +173,42 @@ fn has_bare(classes: &[Class]) -> bool
     classes.iter().any(|class| is_bare(class.get()))
 }
 
-// Adds the warnings on what is never drawn, by whether the map has a font.
+// Whether some class has a label without a font.
+fn has_fontless(classes: &[Class]) -> bool
+    ensures { result ≡ list_any is_fontless classes.now }
+{
+    classes.iter().any(|class| is_fontless(class.get()))
+}
+
+// Whether some class has a label whose FONT is none of the map's.
+fn has_unknown_font(classes: &[Class]) -> bool
+    ensures { result ≡ list_any lacks_font classes.now }
+{
+    classes.iter().any(|class| lacks_font(class.get()))
+}
+
+// Adds the warnings on the fonts of labels.
+fn add_fonts(out: &mut Vec<Warning>, number: usize, fields: &LayerFields) -> Result<(), AllocError>
+    ensures { OnOk result (out.new.items ≡ out.old.items ++ font_warnings number fields.now) }
+{
+    let layer = Some(number);
+    let classes = fields.classes.as_slice();
+    let concern = Concern::NoFont;
+    add(out, has_fontless(classes), Warning { layer, concern })?;
+    let concern = Concern::UnknownFont;
+    let unknown = has_unknown_font(classes);
+    add(out, unknown, Warning { layer, concern })
+}
+
+// Adds the warnings on what is never drawn.
 fn add_drawing(
     out: &mut Vec<Warning>,
-    has_font: bool,
     number: usize,
     fields: &LayerFields,
 ) -> Result<(), AllocError>
-    ensures { OnOk result (out.new.items ≡ out.old.items ++ drawing_warnings has_font number fields.now) }
+    ensures { OnOk result (out.new.items ≡ out.old.items ++ drawing_warnings number fields.now) }
 {
     let layer = Some(number);
-    let concern = Concern::NoFont;
-    let lacks = !has_font && has_label(fields);
-    add(out, lacks, Warning { layer, concern })?;
     let concern = Concern::NoClass;
     add(out, is_unclassed(fields), Warning { layer, concern })?;
     let concern = Concern::BareClass;
@@ -191,25 +217,21 @@ fn add_drawing(
 }
 
 // Adds the warnings on a layer of a number.
-fn add_layer(
-    out: &mut Vec<Warning>,
-    has_font: bool,
-    number: usize,
-    fields: &LayerFields,
-) -> Result<(), AllocError>
-    ensures { OnOk result (out.new.items ≡ out.old.items ++ layer_warnings has_font number fields.now) }
+fn add_layer(out: &mut Vec<Warning>, number: usize, fields: &LayerFields) -> Result<(), AllocError>
+    ensures { OnOk result (out.new.items ≡ out.old.items ++ layer_warnings number fields.now) }
 {
     add_texts(out, number, fields)?;
     add_items(out, number, fields)?;
-    add_drawing(out, has_font, number, fields)
+    add_fonts(out, number, fields)?;
+    add_drawing(out, number, fields)
 }
 
 // Adds the warnings on layers, of which the first has the number 1.
-fn add_layers(out: &mut Vec<Warning>, has_font: bool, layers: &[Layer]) -> Result<(), AllocError>
-    ensures { OnOk result (out.new.items ≡ out.old.items ++ layers_warnings has_font 1 layers.now) }
+fn add_layers(out: &mut Vec<Warning>, layers: &[Layer]) -> Result<(), AllocError>
+    ensures { OnOk result (out.new.items ≡ out.old.items ++ layers_warnings 1 layers.now) }
 {
     for (index, layer) in layers.iter().enumerate() {
-        add_layer(out, has_font, index + 1, layer.get())?;
+        add_layer(out, index + 1, layer.get())?;
     }
     Ok(())
 }
@@ -239,6 +261,6 @@ pub fn warnings(alloc: Global, map: &Map) -> Result<Vec<Warning>, AllocError>
     let map = map.get();
     let mut out = Vec::new(alloc);
     add_service(&mut out, map)?;
-    add_layers(&mut out, map.font.is_some(), map.layers.as_slice())?;
+    add_layers(&mut out, map.layers.as_slice())?;
     Ok(out)
 }

@@ -3,4 +3,4 @@ use Rattle.mapwarnings.specs.Warning.{layers_warnings}
 use Rattle.mapwarnings.proofs.warning.add_layers.Given as goal
 
 abbrev pub invariant-loop-index : goal.invariant-loop-index
-invariant-loop-index l = l.out.items ++ layers_warnings l.has_font (l.index + 1) (drop l.index l.layers) ≡ l.initial.out.items ++ layers_warnings l.has_font 1 l.layers
+invariant-loop-index l = l.out.items ++ layers_warnings (l.index + 1) (drop l.index l.layers) ≡ l.initial.out.items ++ layers_warnings 1 l.layers
