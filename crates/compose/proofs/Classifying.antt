@@ -28,7 +28,7 @@ drawn-none scene a = record { painted = painted-none a.canvas; labelled = with-n
 pub drawn-append : (scene : SceneValue) (a b c : DrawingValue) (xs ys : List ClassifiedFeatureValue) → IsDrawn scene a b xs → IsDrawn scene b c ys → IsDrawn scene a c (xs ++ ys)
 drawn-append scene a b c xs ys p q =
     let shapes = classified_shapes scene.view scene.map.symbols in
-    let candidates = classified_candidates scene.view scene.map.font in
+    let candidates = classified_candidates scene.view scene.map.fonts in
     record {
       painted = rw (flat_map-append shapes xs ys) (painted-append a.canvas b.canvas c.canvas (flat_map shapes xs) (flat_map shapes ys) p.painted q.painted);
       labelled = rw (flat_map-append candidates xs ys)

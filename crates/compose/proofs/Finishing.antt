@@ -1,5 +1,5 @@
 -- What is drawn, with labels over it, is the picture; and there is one.
-use Rattle.std.proofs.Common.{◌≡◌, ◌∙◌, zero, suc, ℕ, ◌+◌, ◌*◌, ◌/◌, ◌%◌, ◌<◌, List, [], ◌++◌, length, Option, None, Some, refl, sym, arith, subst}
+use Rattle.std.proofs.Common.{◌≡◌, ◌∙◌, zero, suc, ℕ, ◌+◌, ◌*◌, ◌/◌, ◌%◌, ◌<◌, List, [], ◌++◌, length, Option, Some, refl, sym, arith, subst}
 use Rattle.std.proofs.lemmas.List.{same_lists}
 use Rattle.std.proofs.lemmas.Nat.{div_below}
 use Rattle.std.proofs.lemmas.Option.{get_or_from_slice_get}
@@ -35,7 +35,7 @@ finished scene chosen background a b c empty drawn labelled =
     let whole = subst (λ (x : DrawingValue). IsDrawn scene x b (classified_list scene.scale scene.map chosen)) empty drawn in
     let labels : HasLabels scene (candidate_list view scene.scale scene.map chosen) b.canvas c = rw whole.labelled at labelled in
     let painted = rw (← paint-list-of-classified view scene.scale scene.map chosen) at whole.painted in
-    let all = painted-append blank b.canvas c shapes (ink_list scene.map.font (candidate_list view scene.scale scene.map chosen) labels.labels) painted labels.painted in
+    let all = painted-append blank b.canvas c shapes (ink_list scene.map.fonts (candidate_list view scene.scale scene.map chosen) labels.labels) painted labels.painted in
     record {
       labels = labels.labels;
       placed = labels.placed;
@@ -46,9 +46,8 @@ finished scene chosen background a b c empty drawn labelled =
     }
 
 -- candidates have one list of labels
-one-labelling : (view : ViewValue) (font : Option FontFields) (candidates : List CandidateValue) (a b : List Placed) → ArePlaced view font candidates a → ArePlaced view font candidates b → a ≡ b
-one-labelling view None candidates a b p q = p ∙ sym q
-one-labelling view (Some font) candidates a b p q = one-placement (setting (record { width = view.width; height = view.height; font = font }) candidates) a b p q
+one-labelling : (view : ViewValue) (fonts : List FontFields) (candidates : List CandidateValue) (a b : List Placed) → ArePlaced view fonts candidates a → ArePlaced view fonts candidates b → a ≡ b
+one-labelling view fonts candidates a b p q = one-placement (setting (record { width = view.width; height = view.height; fonts = fonts }) candidates) a b p q
 
 -- pictures of the same sides and pixels are the same
 same-picture : (a b : PictureFields) → a.width ≡ b.width → a.height ≡ b.height → a.pixels ≡ b.pixels → a ≡ b
@@ -83,7 +82,7 @@ same-pixels w h colour a b la lb p q = same_lists a b (la ∙ sym lb) (λ k d sh
 pub one-picture : HasOnePicture
 one-picture m view scale chosen background a b p q =
     let candidates = candidate_list view scale m chosen in
-    let labels = one-labelling view m.font candidates p.labels q.labels p.placed q.placed in
-    let colour = λ (i j : ℕ). colour_at background (paint_list view scale m chosen ++ ink_list m.font candidates q.labels) i j in
+    let labels = one-labelling view m.fonts candidates p.labels q.labels p.placed q.placed in
+    let colour = λ (i j : ℕ). colour_at background (paint_list view scale m chosen ++ ink_list m.fonts candidates q.labels) i j in
     same-picture a b (p.width ∙ sym q.width) (p.height ∙ sym q.height)
     (same-pixels view.width view.height colour a.pixels b.pixels (p.area ∙ rw (p.width, p.height) refl) (q.area ∙ rw (q.width, q.height) refl) (rw labels at p.pixels) q.pixels)

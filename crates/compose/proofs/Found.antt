@@ -16,7 +16,7 @@ use Rattle.mapdefs.specs.declared.label.LabelFields.{LabelFields}
 use Rattle.mapdefs.specs.declared.layer.LayerFields.{LayerFields}
 use Rattle.viewport.specs.View.{IsView, ViewValue, window}
 use Rattle.compose.specs.Anchor.{shown_anchor}
-use Rattle.compose.specs.Labels.{FoundLabelAll, candidate_at, label_text, classified_candidates}
+use Rattle.compose.specs.Labels.{FoundLabelAll, candidate_at, label_text, written_label, classified_candidates}
 use Rattle.compose.specs.Walk.{given_at, classified_feature}
 use Rattle.geom.proofs.Rising.{first-least, first-below}
 use Rattle.compose.proofs.Candidates.{AreFrom, at-start, one-on}
@@ -88,11 +88,10 @@ module _ (view : ViewValue) (margin : ℕ) (layer : LayerFields) (feature : Feat
   by-label None = inl refl
   by-label (Some label) = by-anchor label (shown_anchor view layer.kind feature) refl
 
-  by-class : (font : Option FontFields) (o : Option ClassFields) →
-      (flat_map (classified_candidates view font) (option_map_or (λ (class : ClassFields). record { layer = layer; feature = feature; class = class } ∷ []) o []) ≡ []) ⊎ HasBoxIn (window view margin) feature
-  by-class font None = inl refl
-  by-class None (Some class) = inl refl
-  by-class (Some font) (Some class) = by-label class.label
+  by-class : (fonts : List FontFields) (o : Option ClassFields) →
+      (flat_map (classified_candidates view fonts) (option_map_or (λ (class : ClassFields). record { layer = layer; feature = feature; class = class } ∷ []) o []) ≡ []) ⊎ HasBoxIn (window view margin) feature
+  by-class fonts None = inl refl
+  by-class fonts (Some class) = by-label (written_label fonts class)
 
 -- what the element of an index gives, in two steps
 pub given-nested : {X Y Z : Type 0} (f : Y → List Z) (g : X → List Y) (h : X → List Z) → ((x : X) → h x ≡ flat_map f (g x)) → (xs : List X) (found : List ℕ) →
@@ -104,11 +103,11 @@ given-nested {X} {Y} {Z} f g h same xs found = nested f (given_at g xs) (given_a
     go (Some x) = same x
 
 pub found-label-all : FoundLabelAll
-found-label-all view margin scale font layer found limits are =
-    let candidates = classified_candidates view font in
+found-label-all view margin scale fonts layer found limits are =
+    let candidates = classified_candidates view fonts in
     let each = λ (feature : FeatureFields). flat_map candidates (classified_feature scale layer feature) in
     sym (given-nested candidates (classified_feature scale layer) each (λ feature. refl) layer.features found)
     ∙ (found-all each layer.features found are.rising are.indices
     (λ k feature is missed. ⊎_elim (λ (e : each feature ≡ []). e) (λ (meets : HasBoxIn (window view margin) feature). absurd (missed (are.each k feature is meets)))
-    (by-class view margin layer feature limits font (class_of scale layer feature)))
+    (by-class view margin layer feature limits fonts (class_of scale layer feature)))
     ∙ nested candidates (classified_feature scale layer) each (λ feature. refl) layer.features)

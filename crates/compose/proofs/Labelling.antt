@@ -1,8 +1,9 @@
 -- Painting the ink of labels.
-use Rattle.std.proofs.Common.{◌≡◌, ◌∙◌, ℕ, List, [], ◌∷◌, length, Option, None, Some, refl, sym, ap, subst}
+use Rattle.std.proofs.Common.{◌≡◌, ◌∙◌, ℕ, List, [], ◌∷◌, length, None, Some, refl, sym, ap}
 use Rattle.std.specs.Prelude.{◌==◌, false}
 use Rattle.std.specs.List.{flat_map, list_any}
 use Rattle.geom.specs.Device.{PixelValue}
+use Rattle.mapdefs.specs.Fonts.{label_font}
 use Rattle.mapdefs.specs.declared.label.LabelFields.{LabelFields}
 use Rattle.viewport.specs.View.{ViewValue}
 use Rattle.compose.specs.Anchor.{shown_anchor}
@@ -19,7 +20,7 @@ use Rattle.mapdefs.specs.declared.font.FontFields.{FontFields}
 use Rattle.mapdefs.specs.declared.picture.PictureFields.{PictureFields}
 use Rattle.scene.specs.Scene.{SceneValue}
 use Rattle.compose.specs.Drawn.{HasLabels}
-use Rattle.compose.specs.Labels.{ArePlaced, candidate_at, ink_list, label_text, label_shapes, classified_candidates}
+use Rattle.compose.specs.Labels.{candidate_at, candidate_shapes, label_text, label_shapes, text_shapes, written_label, classified_candidates}
 use Rattle.canvas.specs.Shapes.{Inked, Outlined, Written}
 use Rattle.canvas.specs.Painted.{IsFilled, IsPainted}
 use Rattle.canvas.proofs.Painting.{painted-none, painted-shape}
@@ -37,29 +38,26 @@ module _ (w : Written) (glyphs : List GlyphValue) (colour : Rgb) (a b : PictureF
       (λ i j. outline-of-glyphs reach w.font w.characters w.at (pos i) (pos j) ∙ ap (λ (gs : List GlyphValue). list_any (λ g. outlines_glyph reach g (pos i) (pos j)) gs) (sym are))
       (λ i j. refl) filled
 
--- without a font there are no labels
-pub unlabelled : (scene : SceneValue) (candidates : List CandidateValue) (a : PictureFields) → None ≡ scene.map.font → HasLabels scene candidates a a
-unlabelled scene candidates a e = record {
-  labels = [];
-  placed = subst (λ (font : Option FontFields). ArePlaced scene.view font candidates []) e refl;
-  painted = subst (λ (font : Option FontFields). IsPainted a a (ink_list font candidates [])) e (painted-none a);
-}
+-- what is painted of a candidate is its text in the font of its label
+pub text-written : (fonts : List FontFields) (c : CandidateValue) (at : PixelValue) (font : FontFields) (a b : PictureFields) → Some font ≡ label_font fonts c.label →
+    IsPainted a b (text_shapes c at font) → IsPainted a b (candidate_shapes fonts c at)
+text-written fonts c at font a b is painted = rw (← is) painted
 
--- with one they are those that are placed and painted
-pub labelled : (scene : SceneValue) (font : FontFields) (candidates : List CandidateValue) (labels : List Placed) (a b : PictureFields) → Some font ≡ scene.map.font →
-    IsPlacement (setting (record { width = scene.view.width; height = scene.view.height; font = font }) candidates) labels →
-    IsPainted a b (flat_map (label_shapes font candidates) labels) → HasLabels scene candidates a b
-labelled scene font candidates labels a b e placed painted = record {
-  labels = labels;
-  placed = subst (λ (font : Option FontFields). ArePlaced scene.view font candidates labels) e placed;
-  painted = subst (λ (font : Option FontFields). IsPainted a b (ink_list font candidates labels)) e painted;
-}
+-- and nothing where that isn't there
+pub text-unwritten : (fonts : List FontFields) (c : CandidateValue) (at : PixelValue) (a : PictureFields) → None ≡ label_font fonts c.label → IsPainted a a (candidate_shapes fonts c at)
+text-unwritten fonts c at a none = rw (← none) (painted-none a)
 
--- what may be placed of a feature whose class has a label, which has a text and an anchor in the picture
-pub candidate-is : (view : ViewValue) (font : Option FontFields) (f : FontFields) (classified : ClassifiedFeatureValue) (label : LabelFields) (text : List ℕ) (p : PixelValue) → Some f ≡ font → classified.class.label ≡ Some label →
+-- the labels of a picture are those that are placed and painted
+pub labelled : (scene : SceneValue) (candidates : List CandidateValue) (labels : List Placed) (a b : PictureFields) →
+    IsPlacement (setting (record { width = scene.view.width; height = scene.view.height; fonts = scene.map.fonts }) candidates) labels →
+    IsPainted a b (flat_map (label_shapes scene.map.fonts candidates) labels) → HasLabels scene candidates a b
+labelled scene candidates labels a b placed painted = record { labels = labels; placed = placed; painted = painted }
+
+-- what may be placed of a feature whose class has a label in one of the fonts, which has a text and an anchor in the picture
+pub candidate-is : (view : ViewValue) (fonts : List FontFields) (classified : ClassifiedFeatureValue) (label : LabelFields) (text : List ℕ) (p : PixelValue) → written_label fonts classified.class ≡ Some label →
     text ≡ label_text classified.layer classified.feature → (length text == 0) ≡ false → shown_anchor view classified.layer.kind classified.feature ≡ Some p →
-    classified_candidates view font classified ≡ record { text = text; anchor = p; label = label; factor = view.factor } ∷ []
-candidate-is view font f classified label text p has labelled written some at = rw (← has, labelled, at, ← written) (go text some)
+    classified_candidates view fonts classified ≡ record { text = text; anchor = p; label = label; factor = view.factor } ∷ []
+candidate-is view fonts classified label text p labelled written some at = rw (labelled, at, ← written) (go text some)
   where
     go : (text : List ℕ) → (length text == 0) ≡ false → candidate_at view.factor label text p ≡ record { text = text; anchor = p; label = label; factor = view.factor } ∷ []
     go [] some = absurd (cc)

@@ -5,7 +5,7 @@ use Rattle.std.proofs.lemmas.Grind.{flat_map-append}
 use Rattle.std.proofs.lemmas.List.{append-nil, append_assoc, take_more}
 use Rattle.std.proofs.lemmas.Option.{slice_get-get_or}
 use Rattle.std.specs.List.{Contains, flat_map, find, list_any}
-use Rattle.std.specs.Option.{is_some, option_map_or}
+use Rattle.std.specs.Option.{is_some, option_and_then, option_map_or}
 use Rattle.std.specs.Prelude.{slice_get}
 use Rattle.scaledenom.specs.Scale.{PictureScale}
 use Rattle.labelcache.specs.Candidate.{CandidateValue}
@@ -24,7 +24,7 @@ use Rattle.scene.specs.Scene.{SceneValue}
 use Rattle.viewport.specs.View.{IsView, ViewValue, window}
 use Rattle.compose.specs.Anchor.{shown_anchor}
 use Rattle.compose.specs.Drawn.{DrawingValue, IsDrawn, IsMentioned, with_candidates}
-use Rattle.compose.specs.Labels.{candidate_at, candidate_list, has_label, label_text, classified_candidates}
+use Rattle.compose.specs.Labels.{candidate_at, candidate_list, has_label, if_written, label_text, classified_candidates}
 use Rattle.canvas.specs.Shapes.{PaintedShape, colour_in, covers}
 use Rattle.compose.specs.Paint.{chosen_shapes, paint_list}
 use Rattle.canvas.specs.Painted.{IsPainted, colour_of, colour_at}
@@ -118,10 +118,10 @@ drawn-to-first scene chosen a = record {
 
 -- the candidates of one more layer
 labelled-more : (scene : SceneValue) (done : List ℕ) (index : ℕ) (a b c : Option (List CandidateValue)) → b ≡ with_candidates a (candidate_list scene.view scene.scale scene.map done) →
-    c ≡ with_candidates b (flat_map (classified_candidates scene.view scene.map.font) (classified_chosen scene.scale scene.map index)) →
+    c ≡ with_candidates b (flat_map (classified_candidates scene.view scene.map.fonts) (classified_chosen scene.scale scene.map index)) →
     c ≡ with_candidates a (candidate_list scene.view scene.scale scene.map (done ++ index ∷ []))
 labelled-more scene done index a b c p q =
-    let candidates = classified_candidates scene.view scene.map.font in
+    let candidates = classified_candidates scene.view scene.map.fonts in
     let classified = classified_chosen scene.scale scene.map in
     let early = flat_map candidates (flat_map classified done) in
     let one = flat_map candidates (classified index) in
@@ -180,24 +180,23 @@ labelled-at f g xs k x b c short is p = rw (slice_get-get_or xs k x short, ← i
 -- a layer that doesn't show has no candidates
 pub hidden-layer : (scene : SceneValue) (index : ℕ) (layer : LayerFields) (labels : List CandidateValue) → slice_get scene.map.layers index ≡ Some layer →
     is_visible_layer scene.scale layer ≡ false →
-    labels ≡ labels ++ flat_map (classified_candidates scene.view scene.map.font) (classified_chosen scene.scale scene.map index)
+    labels ≡ labels ++ flat_map (classified_candidates scene.view scene.map.fonts) (classified_chosen scene.scale scene.map index)
 hidden-layer scene index layer labels is hidden = rw (is, hidden) (sym (append-nil labels))
 
 -- nor has a layer without a class that has a label
-unlabelled-class : (view : ViewValue) (font : Option FontFields) (classified : ClassifiedFeatureValue) → has_label classified.class ≡ false → classified_candidates view font classified ≡ []
-unlabelled-class view None classified none = refl
-unlabelled-class view (Some font) classified none = go classified.class.label none
+unlabelled-class : (view : ViewValue) (fonts : List FontFields) (classified : ClassifiedFeatureValue) → has_label classified.class ≡ false → classified_candidates view fonts classified ≡ []
+unlabelled-class view fonts classified none = go classified.class.label none
   where
     go : (label : Option LabelFields) → is_some label ≡ false →
-        option_map_or (λ l. option_map_or (candidate_at view.factor l (label_text classified.layer classified.feature)) (shown_anchor view classified.layer.kind classified.feature) []) label [] ≡ []
+        option_map_or (λ l. option_map_or (candidate_at view.factor l (label_text classified.layer classified.feature)) (shown_anchor view classified.layer.kind classified.feature) []) (option_and_then (if_written fonts) label) [] ≡ []
     go None none = refl
     go (Some l) none = absurd (false≢true (sym none))
 
-unlabelled-feature : (view : ViewValue) (font : Option FontFields) (layer : LayerFields) (feature : FeatureFields) (f : ClassFields → Bool) (classes : List ClassFields) →
+unlabelled-feature : (view : ViewValue) (fonts : List FontFields) (layer : LayerFields) (feature : FeatureFields) (f : ClassFields → Bool) (classes : List ClassFields) →
     list_any has_label classes ≡ false →
-    flat_map (classified_candidates view font) (option_map_or (λ (class : ClassFields). record { layer = layer; feature = feature; class = class } ∷ []) (find f classes) []) ≡ []
-unlabelled-feature view font layer feature f [] none = refl
-unlabelled-feature view font layer feature f (c ∷ cs) none = go (f c) (unlabelled-feature view font layer feature f cs (later (has_label c) none))
+    flat_map (classified_candidates view fonts) (option_map_or (λ (class : ClassFields). record { layer = layer; feature = feature; class = class } ∷ []) (find f classes) []) ≡ []
+unlabelled-feature view fonts layer feature f [] none = refl
+unlabelled-feature view fonts layer feature f (c ∷ cs) none = go (f c) (unlabelled-feature view fonts layer feature f cs (later (has_label c) none))
   where
     here : (b : Bool) → (b || list_any has_label cs) ≡ false → b ≡ false
     here true h = h
@@ -208,31 +207,31 @@ unlabelled-feature view font layer feature f (c ∷ cs) none = go (f c) (unlabel
     later false h = h
 
     go : (b : Bool) →
-        flat_map (classified_candidates view font) (option_map_or (λ (class : ClassFields). record { layer = layer; feature = feature; class = class } ∷ []) (find f cs) []) ≡ [] →
-        flat_map (classified_candidates view font) (option_map_or (λ (class : ClassFields). record { layer = layer; feature = feature; class = class } ∷ []) (cond b (Some c) (find f cs)) []) ≡ []
-    go true rest = rw (unlabelled-class view font (record { layer = layer; feature = feature; class = c }) (here (has_label c) none)) refl
+        flat_map (classified_candidates view fonts) (option_map_or (λ (class : ClassFields). record { layer = layer; feature = feature; class = class } ∷ []) (find f cs) []) ≡ [] →
+        flat_map (classified_candidates view fonts) (option_map_or (λ (class : ClassFields). record { layer = layer; feature = feature; class = class } ∷ []) (cond b (Some c) (find f cs)) []) ≡ []
+    go true rest = rw (unlabelled-class view fonts (record { layer = layer; feature = feature; class = c }) (here (has_label c) none)) refl
     go false rest = rest
 
-unlabelled-features : (view : ViewValue) (font : Option FontFields) (scale : PictureScale) (layer : LayerFields) (features : List FeatureFields) → list_any has_label layer.classes ≡ false →
-    flat_map (classified_candidates view font) (flat_map (classified_feature scale layer) features) ≡ []
-unlabelled-features view font scale layer [] none = refl
-unlabelled-features view font scale layer (x ∷ xs) none =
+unlabelled-features : (view : ViewValue) (fonts : List FontFields) (scale : PictureScale) (layer : LayerFields) (features : List FeatureFields) → list_any has_label layer.classes ≡ false →
+    flat_map (classified_candidates view fonts) (flat_map (classified_feature scale layer) features) ≡ []
+unlabelled-features view fonts scale layer [] none = refl
+unlabelled-features view fonts scale layer (x ∷ xs) none =
     rw (
-      flat_map-append (classified_candidates view font) (classified_feature scale layer x) (flat_map (classified_feature scale layer) xs),
-      unlabelled-feature view font layer x (admits scale layer x) layer.classes none,
-    ) (unlabelled-features view font scale layer xs none)
+      flat_map-append (classified_candidates view fonts) (classified_feature scale layer x) (flat_map (classified_feature scale layer) xs),
+      unlabelled-feature view fonts layer x (admits scale layer x) layer.classes none,
+    ) (unlabelled-features view fonts scale layer xs none)
 
 pub unlabelled-layer : (scene : SceneValue) (index : ℕ) (layer : LayerFields) (labels : List CandidateValue) → slice_get scene.map.layers index ≡ Some layer →
     is_visible_layer scene.scale layer ≡ true → list_any has_label layer.classes ≡ false →
-    labels ≡ labels ++ flat_map (classified_candidates scene.view scene.map.font) (classified_chosen scene.scale scene.map index)
+    labels ≡ labels ++ flat_map (classified_candidates scene.view scene.map.fonts) (classified_chosen scene.scale scene.map index)
 unlabelled-layer scene index layer labels is shown none =
-    rw (is, shown, unlabelled-features scene.view scene.map.font scene.scale layer layer.features none) (sym (append-nil labels))
+    rw (is, shown, unlabelled-features scene.view scene.map.fonts scene.scale layer layer.features none) (sym (append-nil labels))
 
 -- and a layer that shows has the candidates of what is found
 pub found-layer : (scene : SceneValue) (index : ℕ) (layer : LayerFields) (found : List ℕ) (a b : List CandidateValue) → slice_get scene.map.layers index ≡ Some layer →
     is_visible_layer scene.scale layer ≡ true → IsView scene.view →
     AreCandidates layer.features (window scene.view 0) found →
-    b ≡ a ++ flat_map (classified_candidates scene.view scene.map.font) (flat_map (given_at (classified_feature scene.scale layer) layer.features) found) →
-    b ≡ a ++ flat_map (classified_candidates scene.view scene.map.font) (classified_chosen scene.scale scene.map index)
+    b ≡ a ++ flat_map (classified_candidates scene.view scene.map.fonts) (flat_map (given_at (classified_feature scene.scale layer) layer.features) found) →
+    b ≡ a ++ flat_map (classified_candidates scene.view scene.map.fonts) (classified_chosen scene.scale scene.map index)
 found-layer scene index layer found a b is shown limits are p =
-    rw (is, shown) (p ∙ ap (λ (z : List CandidateValue). a ++ z) (found-label-all scene.view 0 scene.scale scene.map.font layer found limits are))
+    rw (is, shown) (p ∙ ap (λ (z : List CandidateValue). a ++ z) (found-label-all scene.view 0 scene.scale scene.map.fonts layer found limits are))

@@ -12,6 +12,7 @@ use Rattle.geom.specs.World.{Place}
 use Rattle.labelcache.specs.Candidate.{CandidateValue}
 use Rattle.labelcache.specs.declared.cache.Placed.{Placed}
 use Rattle.scene.specs.Classes.{class_of, is_visible_layer}
+use Rattle.mapdefs.specs.Fonts.{label_font}
 use Rattle.mapdefs.specs.declared.class.ClassFields.{ClassFields}
 use Rattle.mapdefs.specs.declared.colour.Rgb.{Rgb}
 use Rattle.mapdefs.specs.declared.feature.FeatureFields.{FeatureFields}
@@ -38,7 +39,7 @@ use Rattle.canvas.specs.Shapes.{PaintedShape, Written, discs, fills, line_by, ma
 use Rattle.canvas.specs.Shapes as shape
 use Rattle.inking.specs.Styles.{line_shapes, point_shapes, symbol_shapes}
 use Rattle.compose.specs.Blocks.{BlocksAreParts, BlocksPaintParts, BlocksPaintTheSame, IsBlockOf, PaintedBlocksAreBlocks, corner_of, label_from, shape_from, whole_colour}
-use Rattle.compose.specs.Labels.{candidate_list, candidate_shapes, ink_list, inks, label_shapes, outlines, reach_of}
+use Rattle.compose.specs.Labels.{candidate_list, candidate_shapes, ink_list, inks, label_shapes, outlines, reach_of, text_shapes}
 use Rattle.labelink.specs.declared.reach.Reach.{Reach}
 use Rattle.compose.specs.Paint.{chosen_shapes, class_shapes, feature_shapes, layer_shapes, paint_list, parts_of, polygon_shapes, style_shapes}
 use Rattle.canvas.specs.Painted.{IsPainted, colour_at}
@@ -205,25 +206,29 @@ inks-moved : (c : PixelValue) (w : Written) (colour : Option Rgb) → inks (reco
 inks-moved c w None = refl
 inks-moved c w (Some colour) = refl
 
-candidate-moved : (c : PixelValue) (font : FontFields) (candidate : CandidateValue) (at : PixelValue) →
-    candidate_shapes font candidate (pixel_from c at) ≡ map (shape_from c) (candidate_shapes font candidate at)
-candidate-moved c font candidate at =
+text-moved : (c : PixelValue) (candidate : CandidateValue) (at : PixelValue) (font : FontFields) →
+    text_shapes candidate (pixel_from c at) font ≡ map (shape_from c) (text_shapes candidate at font)
+text-moved c candidate at font =
     let w : Written = record { font = font; characters = chars candidate.text; at = at } in
     append-moved (shape_from c) (outlines (record w { at = pixel_from c at }) (reach_of candidate) candidate.label.outline) (inks (record w { at = pixel_from c at }) candidate.label.colour)
     (outlines w (reach_of candidate) candidate.label.outline) (inks w candidate.label.colour)
     (outlines-moved c w (reach_of candidate) candidate.label.outline) (inks-moved c w candidate.label.colour)
 
-label-moved : (c : PixelValue) (font : FontFields) (candidates : List CandidateValue) (label : Placed) →
-    label_shapes font candidates (label_from c label) ≡ map (shape_from c) (label_shapes font candidates label)
-label-moved c font candidates label =
-    option-moved (shape_from c) (λ candidate. candidate_shapes font candidate (pixel_from c label.at)) (λ candidate. candidate_shapes font candidate label.at)
-    (λ candidate. candidate-moved c font candidate label.at) (slice_get candidates label.number)
+candidate-moved : (c : PixelValue) (fonts : List FontFields) (candidate : CandidateValue) (at : PixelValue) →
+    candidate_shapes fonts candidate (pixel_from c at) ≡ map (shape_from c) (candidate_shapes fonts candidate at)
+candidate-moved c fonts candidate at =
+    option-moved (shape_from c) (text_shapes candidate (pixel_from c at)) (text_shapes candidate at) (text-moved c candidate at) (label_font fonts candidate.label)
 
-pub ink-moved : (c : PixelValue) (font : Option FontFields) (candidates : List CandidateValue) (labels : List Placed) →
-    ink_list font candidates (map (label_from c) labels) ≡ map (shape_from c) (ink_list font candidates labels)
-ink-moved c None candidates labels = refl
-ink-moved c (Some font) candidates labels =
-    flat_map-moved (label_shapes font candidates) (label_from c) (shape_from c) (label_shapes font candidates) (label-moved c font candidates) labels
+label-moved : (c : PixelValue) (fonts : List FontFields) (candidates : List CandidateValue) (label : Placed) →
+    label_shapes fonts candidates (label_from c label) ≡ map (shape_from c) (label_shapes fonts candidates label)
+label-moved c fonts candidates label =
+    option-moved (shape_from c) (λ candidate. candidate_shapes fonts candidate (pixel_from c label.at)) (λ candidate. candidate_shapes fonts candidate label.at)
+    (λ candidate. candidate-moved c fonts candidate label.at) (slice_get candidates label.number)
+
+pub ink-moved : (c : PixelValue) (fonts : List FontFields) (candidates : List CandidateValue) (labels : List Placed) →
+    ink_list fonts candidates (map (label_from c) labels) ≡ map (shape_from c) (ink_list fonts candidates labels)
+ink-moved c fonts candidates labels =
+    flat_map-moved (label_shapes fonts candidates) (label_from c) (shape_from c) (label_shapes fonts candidates) (label-moved c fonts candidates) labels
 
 pub blocks-paint-parts : BlocksPaintParts
 blocks-paint-parts view across down scale m chosen background i j =
@@ -234,10 +239,10 @@ pub blocks-are-parts : BlocksAreParts
 blocks-are-parts view across down scale m chosen candidates labels background i j =
     let c : PixelValue = corner_of (block_of view across down) in
     ap (λ shapes. colour_at background shapes i j)
-    (append-moved (shape_from c) (paint_list (block_of view across down) scale m chosen) (ink_list m.font candidates (map (label_from c) labels))
-    (paint_list (whole_of view) scale m chosen) (ink_list m.font candidates labels)
-    (list-moved view across down scale m chosen) (ink-moved c m.font candidates labels))
-    ∙ colour_at-moved across.first down.first background (paint_list (whole_of view) scale m chosen ++ ink_list m.font candidates labels) i j
+    (append-moved (shape_from c) (paint_list (block_of view across down) scale m chosen) (ink_list m.fonts candidates (map (label_from c) labels))
+    (paint_list (whole_of view) scale m chosen) (ink_list m.fonts candidates labels)
+    (list-moved view across down scale m chosen) (ink-moved c m.fonts candidates labels))
+    ∙ colour_at-moved across.first down.first background (paint_list (whole_of view) scale m chosen ++ ink_list m.fonts candidates labels) i j
 
 -- an element by its row and its column, where the width is known otherwise
 by-width : {X : Type 0} (xs : List X) (w w' i j : ℕ) (x : Option X) → w ≡ w' → slice_get xs (j * w + i) ≡ x → slice_get xs (j * w' + i) ≡ x
@@ -247,11 +252,11 @@ by-width xs w w' i j x e h = rw (← e) h
 painted-block : (view : ViewValue) (across down : Stretch) (scale : PictureScale) (m : MapFields) (chosen : List ℕ) (labels : List Placed) (background : Option Rgb) (block : PictureFields) →
     IsPainted (record { width = across.count; height = down.count; pixels = replicate (across.count * down.count) background }) block
     (paint_list (block_of view across down) scale m chosen
-    ++ ink_list m.font (candidate_list (whole_of view) scale m chosen) (map (label_from (corner_of (block_of view across down))) labels)) →
+    ++ ink_list m.fonts (candidate_list (whole_of view) scale m chosen) (map (label_from (corner_of (block_of view across down))) labels)) →
     IsBlockOf (whole_colour m (whole_of view) scale chosen background labels) across down block
 painted-block view across down scale m chosen labels background block painted =
     let candidates = candidate_list (whole_of view) scale m chosen in
-    let shapes = paint_list (block_of view across down) scale m chosen ++ ink_list m.font candidates (map (label_from (corner_of (block_of view across down))) labels) in
+    let shapes = paint_list (block_of view across down) scale m chosen ++ ink_list m.fonts candidates (map (label_from (corner_of (block_of view across down))) labels) in
     record {
       width = painted.width;
       height = painted.height;

@@ -76,7 +76,7 @@ spared-drawing scene layer found a b limits wide high area are p =
           (rw (← given-nested shapes (classified_feature scene.scale layer) painted same layer.features found) at p.painted));
       labelled = p.labelled
           ∙ ap (λ (z : List CandidateValue). with_candidates a.labels z)
-          (found-label-all view (margin_of view.factor symbols layer) scene.scale scene.map.font layer found limits are);
+          (found-label-all view (margin_of view.factor symbols layer) scene.scale scene.map.fonts layer found limits are);
     }
 
 -- the classified features of a layer are those of its index in the map

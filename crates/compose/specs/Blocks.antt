@@ -48,7 +48,7 @@ BlocksPaintTheSame = (view : ViewValue) (across down : Stretch) (scale : Picture
 
 -- what a pixel of the whole picture of a view has: the colour of the last shape that covers it, among what is painted of features and then of the labels
 abbrev pub whole_colour : MapFields → ViewValue → PictureScale → List ℕ → Option Rgb → List Placed → ℕ → ℕ → Option Rgb
-whole_colour m view scale chosen background labels = colour_at background (paint_list view scale m chosen ++ ink_list m.font (candidate_list view scale m chosen) labels)
+whole_colour m view scale chosen background labels = colour_at background (paint_list view scale m chosen ++ ink_list m.fonts (candidate_list view scale m chosen) labels)
 
 -- the law: on a block of a picture each pixel has the colour that it has on the whole
 abbrev pub BlocksPaintParts : Type 0
@@ -63,8 +63,8 @@ BlocksAreParts =
     (view : ViewValue) (across down : Stretch) (scale : PictureScale) (m : MapFields) (chosen : List ℕ) (candidates : List CandidateValue) (labels : List Placed)
     (background : Option Rgb) (i j : ℕ) →
     colour_at background (paint_list (block_of view across down) scale m chosen
-    ++ ink_list m.font candidates (map (label_from (corner_of (block_of view across down))) labels)) i j
-    ≡ colour_at background (paint_list (whole_of view) scale m chosen ++ ink_list m.font candidates labels) (across.first + i) (down.first + j)
+    ++ ink_list m.fonts candidates (map (label_from (corner_of (block_of view across down))) labels)) i j
+    ≡ colour_at background (paint_list (whole_of view) scale m chosen ++ ink_list m.fonts candidates labels) (across.first + i) (down.first + j)
 
 -- a picture has the colours of a larger one from a column and a row on
 pub record IsBlockOf (colour : ℕ → ℕ → Option Rgb) (across down : Stretch) (block : PictureFields) : Type 0 where
@@ -79,5 +79,5 @@ PaintedBlocksAreBlocks =
     (view : ViewValue) (across down : Stretch) (scale : PictureScale) (m : MapFields) (chosen : List ℕ) (labels : List Placed) (background : Option Rgb) (blank block : PictureFields) →
     blank ≡ record { width = across.count; height = down.count; pixels = replicate (across.count * down.count) background } →
     IsPainted blank block (paint_list (block_of view across down) scale m chosen
-    ++ ink_list m.font (candidate_list (whole_of view) scale m chosen) (map (label_from (corner_of (block_of view across down))) labels)) →
+    ++ ink_list m.fonts (candidate_list (whole_of view) scale m chosen) (map (label_from (corner_of (block_of view across down))) labels)) →
     IsBlockOf (whole_colour m (whole_of view) scale chosen background labels) across down block

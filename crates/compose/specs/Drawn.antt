@@ -28,12 +28,12 @@ with_candidates (Some labels) more = Some (labels ++ more)
 -- the classified features have been painted over the picture, and their candidates are added where they are collected
 pub record IsDrawn (scene : SceneValue) (old new : DrawingValue) (classified : List ClassifiedFeatureValue) : Type 0 where
   pub painted : IsPainted old.canvas new.canvas (flat_map (classified_shapes scene.view scene.map.symbols) classified)
-  pub labelled : new.labels ≡ with_candidates old.labels (flat_map (classified_candidates scene.view scene.map.font) classified)
+  pub labelled : new.labels ≡ with_candidates old.labels (flat_map (classified_candidates scene.view scene.map.fonts) classified)
 
 -- the candidates of the classified features are added where they are collected, and the picture is as it was
 pub record IsLabelled (scene : SceneValue) (old new : DrawingValue) (classified : List ClassifiedFeatureValue) : Type 0 where
   pub canvas : new.canvas ≡ old.canvas
-  pub labelled : new.labels ≡ with_candidates old.labels (flat_map (classified_candidates scene.view scene.map.font) classified)
+  pub labelled : new.labels ≡ with_candidates old.labels (flat_map (classified_candidates scene.view scene.map.fonts) classified)
 
 -- the layer at an index that stands before others in a list has been drawn; or it stands among these again, and only its candidates are added
 abbrev pub IsMentioned : SceneValue → ℕ → List ℕ → DrawingValue → DrawingValue → Type 0
@@ -43,5 +43,5 @@ IsMentioned scene index after old new =
 -- labels of candidates are placed on the scene's picture, and painted over it
 pub record HasLabels (scene : SceneValue) (candidates : List CandidateValue) (old new : PictureFields) : Type 0 where
   pub labels : List Placed
-  pub placed : ArePlaced scene.view scene.map.font candidates labels
-  pub painted : IsPainted old new (ink_list scene.map.font candidates labels)
+  pub placed : ArePlaced scene.view scene.map.fonts candidates labels
+  pub painted : IsPainted old new (ink_list scene.map.fonts candidates labels)

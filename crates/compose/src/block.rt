@@ -10,7 +10,7 @@ ghost use Rattle.compose.specs.Labels.{candidate_list, candidate_shapes, ink_lis
 ghost use Rattle.compose.specs.Sides.{block_columns, block_rows};
 
 use crate::drawing::Drawing;
-use crate::ink::{paint_candidate, reach_of};
+use crate::ink::{paint_text, reach_of};
 use crate::labels::Labels;
 use crate::paint::{PictureQuery, draw_chosen};
 use crate::reach::{Sides, may_show};
@@ -44,33 +44,30 @@ pub fn draw_block<N: Near>(
     Ok(canvas)
 }
 
-// Paints the labels of the whole picture, where the map has a font.
+// Paints the labels of the whole picture.
 fn paint_whole_labels(
     canvas: &mut Canvas,
     scene: &Scene<'_>,
     labels: &Labels<'_>,
 ) -> Result<(), AllocError>
     ensures { OnOk result (IsPainted canvas.old canvas.new
-        (ink_list scene.now.map.font labels.now.candidates (map (label_from (corner_of scene.now.view)) labels.now.placed))) }
+        (ink_list scene.now.map.fonts labels.now.candidates (map (label_from (corner_of scene.now.view)) labels.now.placed))) }
 {
-    let Some(font) = scene.font() else {
-        return Ok(());
-    };
-    paint_moved(canvas, font, labels, scene.projection().view())
+    paint_moved(canvas, scene.fonts(), labels, scene.projection().view())
 }
 
 // Paints the labels of the whole picture of a view, in the order in which they were placed.
 fn paint_moved(
     canvas: &mut Canvas,
-    font: &Font,
+    fonts: &[Font],
     labels: &Labels<'_>,
     view: View,
 ) -> Result<(), AllocError>
     ensures { OnOk result (IsPainted canvas.old canvas.new
-        (flat_map (label_shapes font.now labels.now.candidates) (map (label_from (corner_of view)) labels.now.placed))) }
+        (flat_map (label_shapes fonts.now labels.now.candidates) (map (label_from (corner_of view)) labels.now.placed))) }
 {
     for label in labels.placed() {
-        paint_shown(canvas, font, labels.candidates(), moved(*label, view))?;
+        paint_shown(canvas, fonts, labels.candidates(), moved(*label, view))?;
     }
     Ok(())
 }
@@ -78,14 +75,14 @@ fn paint_moved(
 // Paints a label, unless all of it lies too far from the canvas to show there.
 fn paint_shown(
     canvas: &mut Canvas,
-    font: &Font,
+    fonts: &[Font],
     labels: &Cache<'_>,
     label: Placed,
 ) -> Result<(), AllocError>
-    ensures { OnOk result (IsPainted canvas.old canvas.new (label_shapes font.now labels.now label)) }
+    ensures { OnOk result (IsPainted canvas.old canvas.new (label_shapes fonts.now labels.now label)) }
 {
     match labels.candidate(label.number) {
-        Some(candidate) => paint_where_shown(canvas, font, candidate, label.at),
+        Some(candidate) => paint_where_shown(canvas, fonts, candidate, label.at),
         None => Ok(()),
     }
 }
@@ -93,12 +90,15 @@ fn paint_shown(
 // Paints a candidate's text with its corner at a pixel, unless all of it lies too far from the canvas to show there.
 fn paint_where_shown(
     canvas: &mut Canvas,
-    font: &Font,
+    fonts: &[Font],
     candidate: &Candidate<'_>,
     at: Pixel,
 ) -> Result<(), AllocError>
-    ensures { OnOk result (IsPainted canvas.old canvas.new (candidate_shapes font.now candidate.now at)) }
+    ensures { OnOk result (IsPainted canvas.old canvas.new (candidate_shapes fonts.now candidate.now at)) }
 {
+    let Some(font) = candidate.label().font_in(fonts) else {
+        return Ok(());
+    };
     let sides = Sides {
         width: canvas.width(),
         height: canvas.height(),
@@ -106,7 +106,7 @@ fn paint_where_shown(
     if !may_show(font, reach_of(candidate), at, sides) {
         return Ok(());
     }
-    paint_candidate(canvas, font, candidate, at)
+    paint_text(canvas, font, candidate, at)
 }
 
 // A label that is placed on the whole picture of a view, as it lies from the canvas's first pixel.

@@ -5,7 +5,7 @@ ghost use Rattle.bdffont.specs.declared.text.TheConstants.{MAX_CHARACTERS};
 ghost use Rattle.labelink.specs.Ink.{outlines_glyph};
 ghost use Rattle.labelink.specs.declared.reach.Reach.TheVariants.{Neighbours, Disc};
 ghost use Rattle.compose.specs.Drawn.{HasLabels};
-ghost use Rattle.compose.specs.Labels.{candidate_shapes, inks, label_shapes, outlines, reach_of};
+ghost use Rattle.compose.specs.Labels.{candidate_shapes, inks, label_shapes, outlines, reach_of, text_shapes};
 ghost use Rattle.canvas.specs.Painted.{IsFilled, IsPainted};
 
 use canvas::{Canvas, paint_cover, paint_covers};
@@ -138,14 +138,14 @@ pub fn reach_of(candidate: &Candidate<'_>) -> Reach
     }
 }
 
-/// Paints a candidate's text with its corner at a pixel: its outline, and then its glyphs.
-pub fn paint_candidate(
+/// Paints a candidate's text in a font, with its corner at a pixel: its outline, and then its glyphs.
+pub fn paint_text(
     canvas: &mut Canvas,
     font: &Font,
     candidate: &Candidate<'_>,
     at: Pixel,
 ) -> Result<(), AllocError>
-    ensures { OnOk result (IsPainted canvas.old canvas.new (candidate_shapes font.now candidate.now at)) }
+    ensures { OnOk result (IsPainted canvas.old canvas.new (text_shapes candidate.now at font.now)) }
 {
     let text = WrittenText::new(canvas.alloc(), font, candidate.text(), at)?;
     let label = candidate.label();
@@ -153,17 +153,32 @@ pub fn paint_candidate(
     text.paint_ink(canvas, label.colour)
 }
 
+// Paints a candidate's text with its corner at a pixel, in the font of its label.
+fn paint_candidate(
+    canvas: &mut Canvas,
+    fonts: &[Font],
+    candidate: &Candidate<'_>,
+    at: Pixel,
+) -> Result<(), AllocError>
+    ensures { OnOk result (IsPainted canvas.old canvas.new (candidate_shapes fonts.now candidate.now at)) }
+{
+    match candidate.label().font_in(fonts) {
+        Some(font) => paint_text(canvas, font, candidate, at),
+        None => Ok(()),
+    }
+}
+
 // Paints a label.
 fn paint_label(
     canvas: &mut Canvas,
-    font: &Font,
+    fonts: &[Font],
     labels: &Cache<'_>,
     label: Placed,
 ) -> Result<(), AllocError>
-    ensures { OnOk result (IsPainted canvas.old canvas.new (label_shapes font.now labels.now label)) }
+    ensures { OnOk result (IsPainted canvas.old canvas.new (label_shapes fonts.now labels.now label)) }
 {
     match labels.candidate(label.number) {
-        Some(candidate) => paint_candidate(canvas, font, candidate, label.at),
+        Some(candidate) => paint_candidate(canvas, fonts, candidate, label.at),
         None => Ok(()),
     }
 }
@@ -171,19 +186,19 @@ fn paint_label(
 // Paints labels, in the order in which they were placed.
 fn paint_placed(
     canvas: &mut Canvas,
-    font: &Font,
+    fonts: &[Font],
     labels: &Cache<'_>,
     placed: &[Placed],
 ) -> Result<(), AllocError>
-    ensures { OnOk result (IsPainted canvas.old canvas.new (flat_map (label_shapes font.now labels.now) placed.now)) }
+    ensures { OnOk result (IsPainted canvas.old canvas.new (flat_map (label_shapes fonts.now labels.now) placed.now)) }
 {
     for label in placed {
-        paint_label(canvas, font, labels, *label)?;
+        paint_label(canvas, fonts, labels, *label)?;
     }
     Ok(())
 }
 
-/// Places labels of the candidates on the scene's picture and paints them. Without a font, the map has no labels.
+/// Places labels of the candidates on the scene's picture and paints them.
 pub fn paint_labels(
     canvas: &mut Canvas,
     scene: &Scene<'_>,
@@ -191,14 +206,12 @@ pub fn paint_labels(
 ) -> Result<(), AllocError>
     ensures { OnOk result (HasLabels scene.now labels.now canvas.old canvas.new) }
 {
-    let Some(font) = scene.font() else {
-        return Ok(());
-    };
+    let fonts = scene.fonts();
     let projection = scene.projection();
     let placed = labels.place(
         projection.width().pixels(),
         projection.height().pixels(),
-        font,
+        fonts,
     )?;
-    paint_placed(canvas, font, labels, &placed)
+    paint_placed(canvas, fonts, labels, &placed)
 }

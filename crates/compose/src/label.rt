@@ -1,8 +1,10 @@
-ghost use Rattle.std.specs.Prelude.{◌≡◌, ◌≤◌, ◌++◌, length, OnOk};
+ghost use Rattle.std.specs.Prelude.{◌≡◌, ◌≤◌, ◌++◌, length, IfSome, OnOk};
+ghost use Rattle.std.specs.Option.{option_copied};
 ghost use Rattle.std.specs.Str.{chars};
 ghost use Rattle.bdffont.specs.declared.text.TheConstants.{MAX_CHARACTERS};
+ghost use Rattle.mapdefs.specs.StyleLimits.{IsLabelWithinLimits};
 ghost use Rattle.compose.specs.Drawn.{with_candidates};
-ghost use Rattle.compose.specs.Labels.{feature_text, first_characters, label_text, classified_candidates};
+ghost use Rattle.compose.specs.Labels.{feature_text, first_characters, label_text, written_label, classified_candidates};
 
 use crate::anchor::shown_anchor;
 use crate::classified_feature::ClassifiedFeature;
@@ -10,7 +12,7 @@ use crate::label_scene::LabelScene;
 use bdffont::{MAX_CHARACTERS, split_char};
 use expressions::item_value;
 use labelcache::{Cache, Candidate};
-use mapdefs::{FeatureFields, LayerFields};
+use mapdefs::{ClassFields, FeatureFields, Font, LabelFields, LayerFields};
 use scene::Scene;
 use std::alloc::AllocError;
 
@@ -56,18 +58,30 @@ fn label_text<'a>(layer: &LayerFields, feature: &'a FeatureFields) -> &'a str
     first_characters(feature_text(layer, feature), MAX_CHARACTERS)
 }
 
+// The label of a class, if it has one whose font is among these.
+fn written_label<'a>(fonts: &[Font], class: &'a ClassFields) -> Option<&'a LabelFields>
+    ensures label { option_copied result ≡ written_label fonts.now class.now }
+    ensures limits { IfSome result (λ label. IsLabelWithinLimits label.now) }
+{
+    let Some(label) = &class.label else {
+        return None;
+    };
+    let label = label.get();
+    match label.font_in(fonts) {
+        Some(_) => Some(label),
+        None => None,
+    }
+}
+
 /// Adds the candidate of a classified feature, if it has one.
 pub fn add_candidate<'a>(
     labels: &mut Cache<'a>,
     scene: &LabelScene<'_, '_>,
     classified: &ClassifiedFeature<'a>,
 ) -> Result<(), AllocError>
-    ensures { OnOk result (labels.new ≡ labels.old ++ classified_candidates scene.now.view scene.now.map.font classified.now) }
+    ensures { OnOk result (labels.new ≡ labels.old ++ classified_candidates scene.now.view scene.now.map.fonts classified.now) }
 {
-    let Some(_font) = scene.font() else {
-        return Ok(());
-    };
-    let Some(label) = &classified.class().label else {
+    let Some(label) = written_label(scene.fonts(), classified.class()) else {
         return Ok(());
     };
     let text = label_text(classified.layer(), classified.feature());
@@ -75,7 +89,7 @@ pub fn add_candidate<'a>(
         return Ok(());
     }
     match shown_anchor(scene, classified.layer().kind, classified.feature()) {
-        Some(anchor) => { labels.add(Candidate::new(text, anchor, label.get(), scene.factor())) }
+        Some(anchor) => { labels.add(Candidate::new(text, anchor, label, scene.factor())) }
         None => Ok(()),
     }
 }
@@ -86,7 +100,7 @@ pub fn collect_candidate<'a>(
     scene: &Scene<'_>,
     classified: &ClassifiedFeature<'a>,
 ) -> Result<(), AllocError>
-    ensures { OnOk result (labels.new ≡ with_candidates labels.old (classified_candidates scene.now.view scene.now.map.font classified.now)) }
+    ensures { OnOk result (labels.new ≡ with_candidates labels.old (classified_candidates scene.now.view scene.now.map.fonts classified.now)) }
 {
     match labels {
         Some(labels) => add_candidate(labels, &LabelScene::of_canvas(scene), classified),

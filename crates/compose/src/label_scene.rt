@@ -10,7 +10,7 @@ use geom::{Factor, Pixel, World, WorldBox};
 use labelcache::{Cache, Placed};
 use mapdefs::{ClassFields, FeatureFields, Font, LayerFields};
 use scene::Scene;
-use std::alloc::{AllocError, Global};
+use std::alloc::AllocError;
 use std::marker::Model;
 
 /// A scene, and the sides of what its labels are placed on, from the first pixel of its canvas on: those of the canvas, or
@@ -110,11 +110,11 @@ impl<'s, 'a> LabelScene<'s, 'a> {
         self.scene.layer(index)
     }
 
-    /// The font of the map's labels, if it has one.
-    pub fn font(&self) -> Option<&'a Font>
-        ensures { option_copied result ≡ self.now.map.font }
+    /// The fonts of the map's labels.
+    pub fn fonts(&self) -> &'a [Font]
+        ensures { result.now ≡ self.now.map.fonts }
     {
-        self.scene.font()
+        self.scene.fonts()
     }
 
     /// Whether the layer shows at the scale.
@@ -135,14 +135,11 @@ impl<'s, 'a> LabelScene<'s, 'a> {
         self.scene.class_of(layer, feature)
     }
 
-    /// The placement of labels. Without a font the map has none.
-    pub fn place(&self, alloc: Global, labels: &Cache<'_>) -> Result<Vec<Placed>, AllocError>
+    /// The placement of labels.
+    pub fn place(&self, labels: &Cache<'_>) -> Result<Vec<Placed>, AllocError>
         ensures corners { IfOk result (λ placed. All (λ label. IsTextCorner label.at) placed.items) }
-        ensures placed { IfOk result (λ placed. ArePlaced self.now.view self.now.map.font labels.now placed.items) }
+        ensures placed { IfOk result (λ placed. ArePlaced self.now.view self.now.map.fonts labels.now placed.items) }
     {
-        let Some(font) = self.scene.font() else {
-            return Ok(Vec::new(alloc));
-        };
-        labels.place(self.columns, self.rows, font)
+        labels.place(self.columns, self.rows, self.scene.fonts())
     }
 }

@@ -23,7 +23,7 @@ pub fn add_layer<'a, N: Near>(
     requires near { N.map_of near.now ≡ scene.now.map }
     requires index { index < length scene.now.map.layers }
     ensures { OnOk result
-        (labels.new ≡ labels.old ++ flat_map (classified_candidates scene.now.view scene.now.map.font)
+        (labels.new ≡ labels.old ++ flat_map (classified_candidates scene.now.view scene.now.map.fonts)
         (classified_chosen scene.now.scale scene.now.map index)) }
 {
     let layer = scene.layer(index);
@@ -47,7 +47,7 @@ pub fn collect_layer<'a, N: Near>(
     requires near { N.map_of near.now ≡ scene.now.map }
     requires index { index < length scene.now.map.layers }
     ensures { OnOk result
-        (labels.new ≡ with_candidates labels.old (flat_map (classified_candidates scene.now.view scene.now.map.font)
+        (labels.new ≡ with_candidates labels.old (flat_map (classified_candidates scene.now.view scene.now.map.fonts)
         (classified_chosen scene.now.scale scene.now.map index))) }
 {
     match labels {
@@ -77,7 +77,7 @@ fn add_features<'a>(
 ) -> Result<(), AllocError>
     requires { All (λ k. k < length layer.now.features) found.now }
     ensures { OnOk result
-        (labels.new ≡ labels.old ++ flat_map (classified_candidates scene.now.view scene.now.map.font)
+        (labels.new ≡ labels.old ++ flat_map (classified_candidates scene.now.view scene.now.map.fonts)
         (flat_map (given_at (classified_feature scene.now.scale layer.now) layer.now.features) found.now)) }
 {
     let features = layer.features.as_slice();
@@ -95,7 +95,7 @@ fn add_feature<'a>(
     feature: &'a FeatureFields,
 ) -> Result<(), AllocError>
     ensures { OnOk result
-        (labels.new ≡ labels.old ++ flat_map (classified_candidates scene.now.view scene.now.map.font)
+        (labels.new ≡ labels.old ++ flat_map (classified_candidates scene.now.view scene.now.map.fonts)
         (classified_feature scene.now.scale layer.now feature.now)) }
 {
     match scene.class_of(layer, feature) {

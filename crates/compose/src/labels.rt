@@ -64,11 +64,11 @@ impl<'a> Labels<'a> {
         requires top { scene.now.view.top ≡ 0 }
         ensures candidates { IfOk result
             (λ labels. labels.candidates ≡ candidate_list (whole_of scene.now.view) scene.now.scale scene.now.map chosen.now) }
-        ensures placed { IfOk result (λ labels. ArePlaced (whole_of scene.now.view) scene.now.map.font labels.candidates labels.placed) }
+        ensures placed { IfOk result (λ labels. ArePlaced (whole_of scene.now.view) scene.now.map.fonts labels.candidates labels.placed) }
     {
         let whole = LabelScene::of_whole(scene);
         let candidates = candidates_of(alloc, &whole, near, chosen)?;
-        let placed = whole.place(alloc, &candidates)?;
+        let placed = whole.place(&candidates)?;
         Ok(Labels { candidates, placed })
     }
 

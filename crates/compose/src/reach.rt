@@ -45,18 +45,20 @@ pub struct Sides {
 }
 
 /// Whether a text in the font whose corner is a pixel may have ink, or an outline of that reach, on a picture. It looks at no
-/// glyph: by the limits of fonts, ink lies at most 64 columns left of the corner, and at most 128 rows above and 64 below the
-/// line that letters stand on, and an outline as many pixels further as it reaches.
+/// glyph: ink lies at most the font's side left of the corner, and at most twice that above and once below the line that
+/// letters stand on, and an outline as many pixels further as it reaches.
 pub fn may_show(font: &Font, reach: Reach, at: Pixel, sides: Sides) -> bool
     ensures { result ≡ false → ShowsNothing font.now reach at sides.width sides.height }
 {
-    let line = line_of(font.get().bounds, at);
+    let fields = font.get();
+    let side = u16::from(fields.side);
+    let line = line_of(fields.bounds, at);
     let more = pixels_of(reach);
-    if is_after(at.i(), sides.width, 64 + more) {
+    if is_after(at.i(), sides.width, side + more) {
         return false;
     }
-    if is_after(line, sides.height, 128 + more) {
+    if is_after(line, sides.height, 2 * side + more) {
         return false;
     }
-    line > -64 - i64::from(more)
+    line > -i64::from(side + more)
 }

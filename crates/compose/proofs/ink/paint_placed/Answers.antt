@@ -8,8 +8,8 @@ loop-label-init c = painted-none c.args.canvas.now
 
 pub loop-label-preserved : goal.loop-label-preserved
 loop-label-preserved c =
-    painted_next (label_shapes c.args.font.now c.args.labels.now) c.args.placed.now c.loop-label.label-index c.label-item.result _ c.loop-label.canvas _
+    painted_next (label_shapes c.args.fonts.now c.args.labels.now) c.args.placed.now c.loop-label.label-index c.label-item.result _ c.loop-label.canvas _
     c.loop-label-test.true c.label-item.is c.loop-label.invariant c.in_ok-paint_label.ensures
 
 pub returns : goal.returns
-returns c = painted_end (label_shapes c.args.font.now c.args.labels.now) c.args.placed.now c.loop-label.label-index c.args.canvas.now c.loop-label.canvas (omega arith) c.loop-label.invariant
+returns c = painted_end (label_shapes c.args.fonts.now c.args.labels.now) c.args.placed.now c.loop-label.label-index c.args.canvas.now c.loop-label.canvas (omega arith) c.loop-label.invariant

@@ -1,6 +1,6 @@
 use Rattle.std.proofs.lemmas.Result.{on_ok_weaker}
 use Rattle.canvas.proofs.Painting.{painted-append}
-use Rattle.compose.proofs.ink.paint_candidate.Goals as goal
+use Rattle.compose.proofs.ink.paint_text.Goals as goal
 
 pub returns : goal.returns
 returns c =

@@ -4,7 +4,7 @@ use Rattle.labelcache.specs.Candidate.{CandidateValue}
 use Rattle.mapdefs.specs.declared.feature.FeatureFields.{FeatureFields}
 use Rattle.mapdefs.specs.declared.layer.LayerFields.{LayerFields}
 use Rattle.compose.specs.Anchor.{shown_anchor}
-use Rattle.compose.specs.Labels.{label_text}
+use Rattle.compose.specs.Labels.{label_text, written_label}
 use Rattle.compose.proofs.Labelling.{candidate-is}
 use Rattle.compose.proofs.label.add_candidate.Goals as goal
 
@@ -14,12 +14,13 @@ returns-in-Some-shown_anchor c =
     let classified = c.args.classified.now in
     let text = c.label_text-text.result.now in
     let anchor = c.in-Some-shown_anchor.anchor in
-    let labelled : classified.class.label ≡ Some c.in-Some-label.label = rw c.class.ensures at c.in-Some-label.is in
+    let label = c.in-Some.label.now in
+    let labelled : written_label scene.map.fonts classified.class ≡ Some label = sym (rw (c.fonts.ensures, c.class.ensures) at c.in-Some.ensures.label) in
     let written : text ≡ label_text classified.layer classified.feature =
     c.label_text-text.ensures.text ∙ ap (λ (l : LayerFields). label_text l c.feature.result.now) c.layer.ensures ∙ ap (λ (f : FeatureFields). label_text classified.layer f) c.feature.ensures in
     let at : shown_anchor scene.view classified.layer.kind classified.feature ≡ Some anchor = sym (rw (c.layer-2.ensures, c.feature-2.ensures) at c.in-Some-shown_anchor.ensures.value) in
-    let entry = rw (c.get.ensures.value, c.factor.ensures) at c.new.ensures in
-    let are = candidate-is scene.view scene.map.font c.in-Some._font.now classified c.in-Some-label.label text anchor c.in-Some.ensures labelled written (sym c.is_empty.ensures ∙ c.if-is_empty.false) at in
+    let entry = rw c.factor.ensures at c.new.ensures in
+    let are = candidate-is scene.view scene.map.fonts classified label text anchor labelled written (sym c.is_empty.ensures ∙ c.if-is_empty.false) at in
     on_ok_weaker c.add.result
     (λ more. more ∙ ap (λ (z : List CandidateValue). c.args.labels.now ++ z) (ap (λ (e : CandidateValue). e ∷ []) entry ∙ sym are))
     c.add.ensures.ok

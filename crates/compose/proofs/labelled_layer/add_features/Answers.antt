@@ -10,7 +10,7 @@ pub loop-index-preserved : goal.loop-index-preserved
 loop-index-preserved c =
     let index : ℕ = get_or c.args.found.now c.loop-index.index-index 0 in
     let scene = c.args.scene.now in
-    let candidates = classified_candidates scene.view scene.map.font in
+    let candidates = classified_candidates scene.view scene.map.fonts in
     let features = c.args.layer.now.features in
     let classified = classified_feature scene.scale c.args.layer.now in
     let inside : index < length features = All-get_or (λ k. k < length features) c.args.found.now c.loop-index.index-index 0 c.loop-index-test.true c.requires in

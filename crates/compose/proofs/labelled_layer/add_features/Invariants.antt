@@ -6,4 +6,4 @@ use Rattle.compose.proofs.labelled_layer.add_features.Given as goal
 
 abbrev pub invariant-loop-index : goal.invariant-loop-index
 invariant-loop-index l = l.labels ≡ l.fn.labels
-    ++ flat_map (classified_candidates l.scene.view l.scene.map.font) (flat_map (given_at (classified_feature l.scene.scale l.layer) l.layer.features) (take l.index-index l.found))
+    ++ flat_map (classified_candidates l.scene.view l.scene.map.fonts) (flat_map (given_at (classified_feature l.scene.scale l.layer) l.layer.features) (take l.index-index l.found))

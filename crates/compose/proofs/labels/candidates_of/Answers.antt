@@ -16,5 +16,5 @@ pub loop-index-preserved : goal.loop-index-preserved
 loop-index-preserved g c =
     let scene = c.args.scene.now in
     let index : ℕ = get_or c.args.chosen.now c.loop-index.index-index 0 in
-    labelled-next (classified_chosen scene.scale scene.map) (classified_candidates scene.view scene.map.font) c.args.chosen.now c.loop-index.index-index index [] c.loop-index.labels _
+    labelled-next (classified_chosen scene.scale scene.map) (classified_candidates scene.view scene.map.fonts) c.args.chosen.now c.loop-index.index-index index [] c.loop-index.labels _
     c.loop-index-test.true (sym (get_or_default_zero c.args.chosen.now c.loop-index.index-index index c.loop-index-test.true)) c.loop-index.invariant c.in_ok-add_layer.ensures
