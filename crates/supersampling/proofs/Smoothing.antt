@@ -23,9 +23,8 @@ use Rattle.compose.specs.Blocks.{whole_colour}
 use Rattle.supersampling.specs.Smooth.{BlocksHaveWholePixels, HasOneSmoothPicture, SmoothByOneIsThePicture}
 
 -- candidates have one list of labels
-one-labelling : (view : ViewValue) (font : Option FontFields) (candidates : List CandidateValue) (a b : List Placed) → ArePlaced view font candidates a → ArePlaced view font candidates b → a ≡ b
-one-labelling view None candidates a b p q = p ∙ sym q
-one-labelling view (Some font) candidates a b p q = one-placement (setting (record { width = view.width; height = view.height; font = font }) candidates) a b p q
+one-labelling : (view : ViewValue) (fonts : List FontFields) (candidates : List CandidateValue) (a b : List Placed) → ArePlaced view fonts candidates a → ArePlaced view fonts candidates b → a ≡ b
+one-labelling view fonts candidates a b p q = one-placement (setting (record { width = view.width; height = view.height; fonts = fonts }) candidates) a b p q
 
 column-below : (at w h : ℕ) → at < w * h → at % w < w
 column-below at zero h below = absurd (omega arith)
@@ -65,7 +64,7 @@ same-picture a b e f g = go a.width a.height a.pixels e f g
 pub one-smooth-picture : HasOneSmoothPicture
 one-smooth-picture m view scale chosen background a b some p q =
     let candidates = candidate_list view scale m chosen in
-    let labels = one-labelling view m.font candidates p.labels q.labels p.placed q.placed in
+    let labels = one-labelling view m.fonts candidates p.labels q.labels p.placed q.placed in
     let colour = whole_colour m view scale chosen background q.labels in
     let across : a.width ≡ b.width = one-side view.factor a.width b.width view.width some p.width q.width in
     let down : a.height ≡ b.height = one-side view.factor a.height b.height view.height some p.height q.height in

@@ -144,7 +144,7 @@ drawn-is-smooth m view scale chosen background labels p across down sides placed
 -- the whole fine picture, with labels placed on it, is drawn
 pub smooth-drawn : (m : MapFields) (view : ViewValue) (scale : PictureScale) (chosen : List ℕ) (background : Option Rgb) (candidates : List CandidateValue) (labels : List Placed) (old new : SmoothFields) →
     view.columns ≡ view.factor * old.width → view.rows ≡ view.factor * old.height → IsSmoothFields old → candidates ≡ candidate_list (whole_of view) scale m chosen →
-    ArePlaced (whole_of view) m.font candidates labels → HasSameSides old new →
+    ArePlaced (whole_of view) m.fonts candidates labels → HasSameSides old new →
     HasRows view.factor (whole_colour m (whole_of view) scale chosen background labels) new.height new → IsSmoothPictureOf m (whole_of view) scale chosen background new
 smooth-drawn m view scale chosen background candidates labels old new across down fields all placed sides rows =
     drawn-is-smooth m (whole_of view) scale chosen background labels new

@@ -17,7 +17,7 @@ use Rattle.compose.specs.Blocks.{whole_colour}
 -- and is as many times smaller than the fine picture in both directions as the view's factor says; each pixel is the mean of as many columns and rows of that
 pub record IsSmoothPictureOf (m : MapFields) (view : ViewValue) (scale : PictureScale) (chosen : List ℕ) (background : Option Rgb) (picture : SmoothFields) : Type 0 where
   pub labels : List Placed
-  pub placed : ArePlaced view m.font (candidate_list view scale m chosen) labels
+  pub placed : ArePlaced view m.fonts (candidate_list view scale m chosen) labels
   pub width : view.factor * picture.width ≡ view.width
   pub height : view.factor * picture.height ≡ view.height
   pub area : length picture.pixels ≡ picture.width * picture.height

@@ -68,6 +68,6 @@ abbrev pub DrawnIsSmooth : Type 0
 DrawnIsSmooth =
     (m : MapFields) (view : ViewValue) (scale : PictureScale) (chosen : List ℕ) (background : Option Rgb) (labels : List Placed) (p : SmoothFields) →
     view.factor * p.width ≡ view.width → view.factor * p.height ≡ view.height → IsSmoothFields p →
-    ArePlaced view m.font (candidate_list view scale m chosen) labels →
+    ArePlaced view m.fonts (candidate_list view scale m chosen) labels →
     HasRows view.factor (whole_colour m view scale chosen background labels) p.height p →
     IsSmoothPictureOf m view scale chosen background p

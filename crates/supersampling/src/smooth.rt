@@ -101,7 +101,7 @@ fn means_of<N: Near>(
     requires near { N.map_of near.now ≡ scene.now.map }
     requires layers { All (λ index. index < length scene.now.map.layers) asked.now.chosen.now }
     requires candidates { labels.now.candidates ≡ candidate_list (whole_of scene.now.view) scene.now.scale scene.now.map asked.now.chosen.now }
-    requires placed { ArePlaced (whole_of scene.now.view) scene.now.map.font labels.now.candidates labels.now.placed }
+    requires placed { ArePlaced (whole_of scene.now.view) scene.now.map.fonts labels.now.candidates labels.now.placed }
     ensures { IfOk result (IsSmoothPictureOf scene.now.map (whole_of scene.now.view) scene.now.scale asked.now.chosen.now asked.now.background) }
 {
     let fine = scene.fine();
