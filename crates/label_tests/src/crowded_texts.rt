@@ -1,5 +1,5 @@
 use crate::entries::{Entry, label_of, plain_label};
-use crate::fonts::font_of;
+use crate::fonts::fonts_of;
 use crate::plain_program::compared;
 use crate::sequences::{is_one_of, next, next_position, next_sides};
 use geom::Factor;
@@ -31,12 +31,12 @@ fn next_crowd(alloc: Global, state: &mut u64) -> Result<Vec<Entry>, AllocError> 
 // The result of 20 such sets, whose text has no pixel, so that anchors alone decide: `ok` where both programs place the same
 // labels, of each set more than 300 and not all; else the number of the set.
 fn result_of_crowds(alloc: Global, seed: &str) -> Result<String, AllocError> {
-    let font = font_of(alloc, "flat")?;
+    let fonts = fonts_of(alloc, "flat")?;
     let mut state = seed.parse::<u64>().unwrap_or(0);
     for number in 0..20_u16 {
         let sides = next_sides(&mut state);
         let entries = next_crowd(alloc, &mut state)?;
-        match compared(alloc, &font, sides, &entries)? {
+        match compared(alloc, fonts.as_slice(), sides, &entries)? {
             Some((placed, left_out)) if placed > 300 && left_out > 50 => {}
             _ => return format!(in alloc; "set {number} differs"),
         }

@@ -26,7 +26,7 @@ impl Entry {
     }
 }
 
-/// The defaults of a label, in the middle round its anchor.
+/// The defaults of a label in the first font, in the middle round its anchor.
 pub(crate) fn plain_label() -> LabelFields {
     LabelFields {
         colour: Some(Rgb {
@@ -36,6 +36,8 @@ pub(crate) fn plain_label() -> LabelFields {
         }),
         outline: None,
         outline_width: 1,
+        font: Some(0),
+        lacks_font: false,
         priority: 1,
         position: Position::Centre,
         buffer: 0,
@@ -112,12 +114,12 @@ pub(crate) fn add_all<'a>(cache: &mut Cache<'a>, entries: &'a [Entry]) -> Result
     Ok(())
 }
 
-/// The labels of the entries that are placed on a picture of that width and height.
+/// The labels of the entries that are placed, in their fonts of these, on a picture of that width and height.
 pub(crate) fn placed_of(
     alloc: Global,
     width: u16,
     height: u16,
-    font: &Font,
+    fonts: &[Font],
     entries: &[Entry],
 ) -> Result<Vec<Placed>, AllocError>
     requires width { width ≤ MAX_SIDE }
@@ -125,5 +127,5 @@ pub(crate) fn placed_of(
 {
     let mut cache = Cache::new(alloc);
     add_all(&mut cache, entries)?;
-    cache.place(width, height, font)
+    cache.place(width, height, fonts)
 }

@@ -1,5 +1,5 @@
 use bdffont::{FontError, read};
-use mapdefs::Font;
+use mapdefs::{Font, Items};
 use std::alloc::{AllocError, Global};
 
 // A font of one glyph, 2 by 2 pixels of which the lower right one has no ink, that advances by 3.
@@ -73,4 +73,13 @@ pub(crate) fn font_of(alloc: Global, name: &str) -> Result<Font, AllocError> {
         Ok(font) => Ok(font),
         Err(FontError::Fault(_)) | Err(FontError::NoMemory) => Err(AllocError),
     }
+}
+
+/// The fonts of some names with `+` between them.
+pub(crate) fn fonts_of(alloc: Global, names: &str) -> Result<Items<Font>, AllocError> {
+    let mut fonts = Items::new(alloc);
+    for name in names.split('+') {
+        fonts.push(font_of(alloc, name)?)?;
+    }
+    Ok(fonts)
 }

@@ -4,7 +4,7 @@ ghost use Rattle.mapdefs.specs.declared.limits.TheConstants.{MAX_LAYERS};
 ghost use Rattle.mapdefs.specs.MapLimits.{ClassNamesSymbolsOf, LayerNamesSymbolsOf, NamesSymbolOf};
 
 use crate::entries::{label_of, plain_label};
-use crate::fonts::font_of;
+use crate::fonts::fonts_of;
 use crate::worked_labels::set;
 use geom::World;
 use mapdefs::{
@@ -210,23 +210,22 @@ fn layer(alloc: Global, row: &str, unit: Unit) -> Result<Layer, AllocError>
     }))
 }
 
-// The font `tiny`, if there is to be one.
-fn tiny_font(alloc: Global, has_font: bool) -> Result<Option<Shared<Font>>, AllocError> {
-    if !has_font {
-        return Ok(None);
+// The fonts of these names, or none.
+fn shared_fonts(alloc: Global, names: Option<&str>) -> Result<SharedItems<Font>, AllocError> {
+    match names {
+        Some(names) => SharedItems::new(alloc, fonts_of(alloc, names)?),
+        None => Ok(SharedItems::empty()),
     }
-    let font = Shared::new(alloc, font_of(alloc, "tiny")?)?;
-    Ok(Some(font))
 }
 
-// A map of these layers with that font.
-fn map_with(alloc: Global, layers: Items<Layer>, font: Option<Shared<Font>>) -> Map
+// A map of these layers with those fonts.
+fn map_with(alloc: Global, layers: Items<Layer>, fonts: SharedItems<Font>) -> Map
     requires count { length layers ≤ MAX_LAYERS }
     requires symbols { All (LayerNamesSymbolsOf 0) layers }
     ensures { result.layers ≡ layers }
 {
     let mut fields = map_fields(alloc, layers);
-    fields.font = font;
+    fields.fonts = fonts;
     Map::new(fields)
 }
 
@@ -242,16 +241,16 @@ fn layers_of(alloc: Global, rows: &str, unit: Unit) -> Result<Items<Layer>, Allo
     Ok(layers)
 }
 
-/// A map of two layers, with the font `tiny` or without one.
+/// A map of two layers, with the fonts of these names or without any.
 pub(crate) fn map_of_layers(
     alloc: Global,
     rows: &str,
     unit: Unit,
-    has_font: bool,
+    fonts: Option<&str>,
 ) -> Result<Map, AllocError>
     ensures { IfOk result (λ map. length map.layers ≡ 2) }
 {
     let layers = layers_of(alloc, rows, unit)?;
-    let font = tiny_font(alloc, has_font)?;
-    Ok(map_with(alloc, layers, font))
+    let fonts = shared_fonts(alloc, fonts)?;
+    Ok(map_with(alloc, layers, fonts))
 }

@@ -102,9 +102,19 @@ fn ground_of(letter: &str) -> (i64, Unit)
     }
 }
 
+// The fonts of the map of a letter, if it has any.
+fn fonts_of_map(letter: &str) -> Option<&'static str> {
+    match letter {
+        "x" => None,
+        "u" => Some("tiny+uneven"),
+        _ => Some("tiny"),
+    }
+}
+
 // The picture of a row, once by all features and once by those that served layers find. A row has a letter of the view,
 // the layers that are chosen, and two layers. The letter is `t` where the view begins at 0 and counts are tenths of a
-// degree, `m` where it begins at -5 and counts are millionths, and `x` as `t` where the map has no font.
+// degree, `m` where it begins at -5 and counts are millionths, `u` as `t` where the map has two fonts, and `x` as `t` where it
+// has none.
 fn labelled_picture(alloc: Global, row: &str) -> Result<String, AllocError> {
     let (ground, rows) = row.split_once('|').ok_or(AllocError)?;
     let (letter, digits) = ground.split_once(' ').ok_or(AllocError)?;
@@ -112,7 +122,7 @@ fn labelled_picture(alloc: Global, row: &str) -> Result<String, AllocError> {
         return Err(AllocError);
     };
     let (low, unit) = ground_of(letter);
-    let map = map_of_layers(alloc, rows, unit, letter != "x")?;
+    let map = map_of_layers(alloc, rows, unit, fonts_of_map(letter))?;
     let view = view_from(low);
     let by_all = drawn(alloc, &map, &AllFeatures::of(alloc, &map), view, chosen)?;
     let layers = Layers::of(alloc, map)?;
@@ -168,9 +178,18 @@ const PICTURES: &str = "\
 3:...oo..... 4:...o...... =t 0|p - CC;long - 45,55|p - CC;- - 0,0
 3:...oo..... 4:...o...... =t 0|p - CC;BA - 45,55|p - CC;- - 0,0
 # a map without a font has no labels
-=x 0|p - CC;A - 45,55|p - CC;- - 0,0";
+=x 0|p - CC;A - 45,55|p - CC;- - 0,0
+# the ink, its outline and the room of a label are those of its font
+5:...o...... =u 0|p - CC t1;A - 45,55|p - CC;- - 0,0
+4:..###..... 5:..#o#..... 6:..###..... =u 0|p - CC r# t1;A - 45,55|p - CC;- - 0,0
+3:...oo..... 4:...o...... 8:......o... =u 01|p - CC;A - 45,55|p - CC t1;A - 75,25
+5:...o...... 6:......oo.. 7:......o... =u 01|p - CC t1;A - 45,55|p - CC;A - 75,25
+1:....oo.... 2:....o..... =u 01|p - CC t1;A - 45,55|p - CC;A - 55,75
+# a label whose font isn't there is none, and takes no room
+=u 0|p - CC t2;A - 45,55|p - CC;- - 0,0
+3:...oo..... 4:...o...... =u 01|p - CC;A - 45,55|p - CC t2;A - 45,55";
 
 #[test]
 fn labels_of_maps_are_painted_as_worked(rt: HostRuntime) -> Result<(), TableFault> {
-    check_rows(rt.alloc(), PICTURES, '=', 29, labelled_picture)
+    check_rows(rt.alloc(), PICTURES, '=', 36, labelled_picture)
 }

@@ -1,5 +1,5 @@
 use crate::entries::{Entry, label_of, placed_of, plain_label};
-use crate::fonts::font_of;
+use crate::fonts::fonts_of;
 use crate::sequences::{is_one_of, next, next_position, next_sides};
 use bdffont::{extent, is_short};
 use geom::{Factor, PictureSide, PxBox};
@@ -25,7 +25,7 @@ struct PlainLabel {
 struct Ground<'a> {
     width: i64,
     height: i64,
-    font: &'a Font,
+    fonts: &'a [Font],
 }
 
 // Where the left side of a text of that width stands, for an anchor in that column.
@@ -59,6 +59,14 @@ fn size_of(font: &Font, text: &str) -> (i64, i64) {
         (i64::from(width), i64::from(height))
     } else {
         (0, 0)
+    }
+}
+
+// The width and the height of an entry's text in its font.
+fn size_in(fonts: &[Font], entry: &Entry) -> (i64, i64) {
+    match fonts.get(entry.label.get().font.unwrap_or(0)) {
+        Some(font) => size_of(font, entry.text),
+        None => (0, 0),
     }
 }
 
@@ -117,7 +125,7 @@ fn passes(
 
 // The label of a number's entry at a position.
 fn label_at(ground: &Ground<'_>, entry: &Entry, number: usize, position: Position) -> PlainLabel {
-    let (width, height) = size_of(ground.font, entry.text);
+    let (width, height) = size_in(ground.fonts, entry);
     let (left, top) = (
         left_at(position, entry.i, width),
         top_at(position, entry.j, height),
@@ -229,9 +237,14 @@ fn next_text(state: &mut u64) -> &'static str {
     }
 }
 
-// A label. Half of them have a distance, and each is forced in one of six.
-fn next_label(state: &mut u64) -> LabelFields {
+// A label in one of so many fonts. Half of them have a distance, and each is forced in one of six.
+fn next_label(state: &mut u64, fonts: usize) -> LabelFields {
     let plain = plain_label();
+    let font = if fonts > 1 {
+        next(state, 2) as usize
+    } else {
+        0
+    };
     LabelFields {
         outline: if is_one_of(state, 3) {
             plain.colour
@@ -244,6 +257,8 @@ fn next_label(state: &mut u64) -> LabelFields {
             plain.colour
         },
         outline_width: [1, 1, 2, 3, 5, 8][next(state, 6).clamp(0, 5) as usize],
+        font: Some(font),
+        lacks_font: false,
         priority: [1, 1, 2, 3, 9, 10][next(state, 6).clamp(0, 5) as usize],
         position: next_position(state),
         buffer: [0, 0, 0, 1, 2, 5][next(state, 6).clamp(0, 5) as usize],
@@ -253,9 +268,9 @@ fn next_label(state: &mut u64) -> LabelFields {
     }
 }
 
-// A candidate on a picture of up to 60 pixels, or around it, of this text if one is given. One in eight has the anchor of
-// 5 5.
-fn next_entry(state: &mut u64, text: Option<&'static str>) -> Entry {
+// A candidate on a picture of up to 60 pixels, or around it, of this text if one is given, in one of so many fonts. One in
+// eight has the anchor of 5 5.
+fn next_entry(state: &mut u64, text: Option<&'static str>, fonts: usize) -> Entry {
     let is_same = is_one_of(state, 8);
     let (i, j) = (next(state, 90), next(state, 90));
     Entry {
@@ -265,20 +280,21 @@ fn next_entry(state: &mut u64, text: Option<&'static str>) -> Entry {
         },
         i: if is_same { 5 } else { i.wrapping_sub(15) },
         j: if is_same { 5 } else { j.wrapping_sub(15) },
-        label: label_of(next_label(state)),
+        label: label_of(next_label(state, fonts)),
         factor: Factor::of(if is_one_of(state, 3) { 2 } else { 1 }),
     }
 }
 
-// Some candidates, at most 60, all of one text if that is given.
+// Some candidates, at most 60, all of one text if that is given, in so many fonts.
 fn next_entries(
     alloc: Global,
     state: &mut u64,
     text: Option<&'static str>,
+    fonts: usize,
 ) -> Result<Vec<Entry>, AllocError> {
     let mut entries = Vec::new(alloc);
     for _ in 0..next(state, 61) {
-        entries.push(next_entry(state, text))?;
+        entries.push(next_entry(state, text, fonts))?;
     }
     Ok(entries)
 }
@@ -305,7 +321,7 @@ fn are_same(labels: &[Placed], plain: &[PlainLabel]) -> bool {
 /// else.
 pub(crate) fn compared(
     alloc: Global,
-    font: &Font,
+    fonts: &[Font],
     sides: (PictureSide, PictureSide),
     entries: &[Entry],
 ) -> Result<Option<(usize, usize)>, AllocError> {
@@ -313,9 +329,9 @@ pub(crate) fn compared(
     let ground = Ground {
         width: i64::from(width.pixels()),
         height: i64::from(height.pixels()),
-        font,
+        fonts,
     };
-    let labels = placed_of(alloc, width.pixels(), height.pixels(), font, entries)?;
+    let labels = placed_of(alloc, width.pixels(), height.pixels(), fonts, entries)?;
     let plain = plain(alloc, &ground, entries)?;
     if !are_same(&labels, &plain) {
         return Ok(None);
@@ -332,18 +348,18 @@ fn only_text(code: &str) -> Option<&'static str> {
 }
 
 // The result of 500 sets of candidates: `ok` where both programs place the same ones, many labels are placed and many left
-// out, and more than 16 are placed in many sets; else the number of the set, or how many. A row has the name of a font, the
+// out, and more than 16 are placed in many sets; else the number of the set, or how many. A row has the names of fonts, the
 // number from which a sequence begins, and the only text or `-`.
 fn result_of_sets(alloc: Global, row: &str) -> Result<String, AllocError> {
     let (name, row) = row.split_once(' ').ok_or(AllocError)?;
     let (seed, code) = row.split_once(' ').ok_or(AllocError)?;
-    let font = font_of(alloc, name)?;
+    let fonts = fonts_of(alloc, name)?;
     let mut state = seed.parse::<u64>().unwrap_or(0);
     let (mut placed, mut left_out, mut crowded) = (0_usize, 0_usize, 0_usize);
     for number in 0..500_u16 {
         let sides = next_sides(&mut state);
-        let entries = next_entries(alloc, &mut state, only_text(code))?;
-        match compared(alloc, &font, sides, &entries)? {
+        let entries = next_entries(alloc, &mut state, only_text(code), fonts.len())?;
+        match compared(alloc, fonts.as_slice(), sides, &entries)? {
             Some((some, others)) => {
                 placed = placed.saturating_add(some);
                 left_out = left_out.saturating_add(others);
@@ -363,9 +379,11 @@ const SETS: &str = "\
 ok=tiny 20263 -
 ok=uneven 20264 -
 ok=flat 20265 -
-ok=tiny 20266 A";
+ok=tiny 20266 A
+ok=tiny+uneven 20268 -
+ok=uneven+tiny 20269 A";
 
 #[test]
 fn labels_are_those_of_a_plain_program(rt: HostRuntime) -> Result<(), TableFault> {
-    check_rows(rt.alloc(), SETS, '=', 4, result_of_sets)
+    check_rows(rt.alloc(), SETS, '=', 6, result_of_sets)
 }

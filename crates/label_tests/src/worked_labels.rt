@@ -1,5 +1,5 @@
 use crate::entries::{Entry, label_of, page_side, placed_of, plain_label};
-use crate::fonts::font_of;
+use crate::fonts::fonts_of;
 use crate::labelled_maps::colour_of;
 use geom::Factor;
 use labelcache::Placed;
@@ -24,7 +24,8 @@ fn position_of(keyword: &str) -> Position {
 }
 
 /// Sets the field of a code: `F` for FORCE, `P` for PARTIALS, `o` for an outline, `n` for no colour, a colour as `c#`
-/// and that of an outline as `r#`, the width of an outline as `w2`, a priority as `p2`, a buffer as `b3`, a distance as `d5`, and else a position.
+/// and that of an outline as `r#`, the width of an outline as `w2`, the index of its font as `t1`, a priority as `p2`, a buffer as `b3`, a distance as
+/// `d5`, and else a position.
 pub(crate) fn set(label: &mut LabelFields, code: &str) {
     if let Some(letter) = code.strip_prefix('c') {
         label.colour = colour_of(letter);
@@ -40,6 +41,8 @@ pub(crate) fn set(label: &mut LabelFields, code: &str) {
         label.colour = None;
     } else if let Some(width) = code.strip_prefix('w') {
         label.outline_width = width.parse::<u8>().unwrap_or(0);
+    } else if let Some(index) = code.strip_prefix('t') {
+        label.font = index.parse::<usize>().ok();
     } else if let Some(priority) = code.strip_prefix('p') {
         label.priority = priority.parse::<u8>().unwrap_or(0);
     } else if let Some(buffer) = code.strip_prefix('b') {
@@ -98,14 +101,14 @@ fn entries(alloc: Global, list: &str) -> Result<Vec<Entry>, AllocError> {
     Ok(entries)
 }
 
-// The labels of a row: the name of a font, the sides of a square picture, and the candidates.
+// The labels of a row: the names of fonts, the sides of a square picture, and the candidates.
 fn placed(alloc: Global, row: &str) -> Result<Vec<Placed>, AllocError> {
     let (page, list) = row.split_once('|').ok_or(AllocError)?;
     let (name, pixels) = page.split_once(' ').ok_or(AllocError)?;
     let side = page_side(pixels.parse::<i64>().unwrap_or(0));
-    let font = font_of(alloc, name)?;
+    let fonts = fonts_of(alloc, name)?;
     let entries = entries(alloc, list)?;
-    placed_of(alloc, side, side, &font, &entries)
+    placed_of(alloc, side, side, fonts.as_slice(), &entries)
 }
 
 // Adds where a label stands, as its number, the upper left pixel of its text, and its box.
@@ -198,6 +201,26 @@ const PLACED: &str = "\
 0@19,19:3,3-38,37 =tiny 40|A 20 20 o w8 f2
 1@21,19:21,19-24,21 0@9,19:9,19-12,21 =tiny 40|A 10 20 d4 f3;A 22 20
 1@21,19:21,19-24,21 =tiny 40|A 10 20 d4 f4;A 22 20
+# each label has the sides of its own font, whichever comes first
+0@3,2:3,2-5,7 =tiny+uneven 10|A 4 4 t1
+0@3,3:3,3-6,5 =uneven+tiny 10|A 4 4 t1
+0@3,3:3,3-6,5 =tiny+uneven 10|A 4 4 t0
+# a label of a large font is shut out by one of a small, and the other way
+1@4,1:4,1-7,3 =tiny+uneven 10|A 4 4 t1;A 5 2
+1@4,1:4,1-7,3 0@3,3:3,3-6,5 =tiny+uneven 10|A 4 4;A 5 2
+1@3,2:3,2-5,7 =tiny+uneven 10|A 5 2;A 4 4 t1
+1@4,1:4,1-7,3 0@3,2:3,2-5,7 =tiny+uneven 10|A 4 4 t1 F;A 5 2
+# equal texts keep their distance in other fonts too
+1@5,2:5,2-7,7 =tiny+uneven 10|A 2 4 d5;A 6 4 t1
+1@5,2:5,2-7,7 0@1,3:1,3-4,5 =tiny+uneven 10|A 2 4 d4;A 6 4 t1
+# what is cut at the border goes by the label's font
+=tiny+uneven 10|A 4 1 t1
+0@3,-1:3,-1-5,4 =tiny+uneven 10|A 4 1 t1 P
+0@3,0:3,0-6,2 =tiny+uneven 10|A 4 1
+# the border round a text is wide in each font
+0@3,2:1,0-7,9 =tiny+uneven 10|A 4 4 t1 b1 o
+# a text has no sides where its font isn't there
+0@4,4:4,4-4,4 =tiny+uneven 10|A 4 4 t2
 # in the last corner of the largest picture, and a pixel too far right or down
 0@8189,8190:8189,8190-8192,8192 =tiny 8192|A 8190 8191
 =tiny 8192|A 8191 8191
@@ -205,7 +228,7 @@ const PLACED: &str = "\
 
 #[test]
 fn labels_stand_at_worked_corners(rt: HostRuntime) -> Result<(), TableFault> {
-    check_rows(rt.alloc(), PLACED, '=', 53, result_of_row)
+    check_rows(rt.alloc(), PLACED, '=', 67, result_of_row)
 }
 
 // The result for the first candidate of a row: the corner of its text, or `-`.

@@ -289,7 +289,7 @@ fn map_of(alloc: Global, layers: Items<Layer>) -> Result<Map, AllocError>
     requires count { length layers ≤ MAX_LAYERS }
     requires symbols { All (LayerNamesSymbolsOf 3) layers }
     ensures layers { IfOk result (λ map. map.layers ≡ layers) }
-    ensures font { IfOk result (λ map. map.font ≡ None) }
+    ensures fonts { IfOk result (λ map. map.fonts ≡ []) }
 {
     let symbols = three_symbols(alloc)?;
     let mut fields = map_fields(alloc, layers);
@@ -308,7 +308,7 @@ fn layer_of_rings(alloc: Global, codes: &str, rings: &str) -> Result<Layer, Allo
 /// A map of two layers. The first has these codes and rings, the second paints the inner square dark.
 pub(crate) fn map_of_two(alloc: Global, codes: &str, rings: &str) -> Result<Map, AllocError>
     ensures layers { IfOk result (λ map. length map.layers ≡ 2) }
-    ensures font { IfOk result (λ map. map.font ≡ None) }
+    ensures fonts { IfOk result (λ map. map.fonts ≡ []) }
 {
     let mut layers = Vec::new(alloc);
     layers.push(layer_of_rings(alloc, codes, rings)?)?;

@@ -77,7 +77,7 @@ pub fn map_fields(alloc: Global, layers: Items<Layer>) -> MapFields
       png = false;
       mercator = false;
       smoothing = 1;
-      font = None;
+      fonts = [];
       symbols = [];
       layers = layers;
     } }
@@ -90,7 +90,7 @@ pub fn map_fields(alloc: Global, layers: Items<Layer>) -> MapFields
         png: false,
         mercator: false,
         smoothing: Factor::of(1),
-        font: None,
+        fonts: SharedItems::empty(),
         symbols: SharedItems::empty(),
         layers,
     }
