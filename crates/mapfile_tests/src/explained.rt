@@ -68,6 +68,7 @@ sound|MAP END
 2: 1001 is no latitude in POINTS: a number from -1000 to 1000|MAP LAYER FEATURE POINTS 1 2 3~1001
 2: (a) is no key of METADATA|MAP WEB METADATA a b~(a)
 1: (f) is no value of CONFIG, which takes a word or a quoted text|MAP CONFIG LABELFONT (f)
+2: \"LABELFONT a.b\" is no value of CONFIG, which takes a key, as LABELFONT, a space and a name of letters, digits, - and _|MAP CONFIG~'LABELFONT a.b' f
 2: image/gif is no value of CONFIG, which takes image/png, image/x-portable-pixmap and image/x-portable-arbitrarymap, with spaces between them|MAP CONFIG WMS_FORMATS~image/gif
 2: EPSG:25832 is no value of CONFIG, which takes EPSG:3857 alone|MAP CONFIG WMS_CRS~EPSG:25832
 2: CONFIG has no value|MAP CONFIG WMS_CRS~END
@@ -149,7 +150,7 @@ sound|MAP END
 
 #[test]
 fn faults_are_explained(rt: HostRuntime) -> Result<(), TableFault> {
-    check_rows(rt.alloc(), ROWS, '|', 117, explanation_of_row)
+    check_rows(rt.alloc(), ROWS, '|', 118, explanation_of_row)
 }
 
 // The result for sources with a block, a vertex or an item more than a map may have.
@@ -158,11 +159,12 @@ const LIMITS: &str = "\
 2: LAYER of line 2 has more than 64 CLASS blocks|MAP~LAYER {65*CLASS END }
 3: CLASS of line 2 has more than 16 STYLE blocks|MAP LAYER~CLASS~{17*STYLE END }
 4: FEATURE of line 2 has more than 65536 vertices|MAP LAYER~FEATURE~POINTS~{65537*1 2 }
-2: PROCESSING names more than 64 items|MAP LAYER PROCESSING~ITEMS=a{64*,b}";
+2: PROCESSING names more than 64 items|MAP LAYER PROCESSING~ITEMS=a{64*,b}
+2: MAP of line 1 has more than 16 fonts with names|MAP CONFIG 'LABELFONT a' f CONFIG 'LABELFONT b' f CONFIG 'LABELFONT c' f CONFIG 'LABELFONT d' f CONFIG 'LABELFONT e' f CONFIG 'LABELFONT f' f CONFIG 'LABELFONT g' f CONFIG 'LABELFONT h' f CONFIG 'LABELFONT i' f CONFIG 'LABELFONT j' f CONFIG 'LABELFONT k' f CONFIG 'LABELFONT l' f CONFIG 'LABELFONT m' f CONFIG 'LABELFONT n' f CONFIG 'LABELFONT o' f CONFIG 'LABELFONT p' f CONFIG~'LABELFONT q' f";
 
 #[test]
 fn limits_are_explained(rt: HostRuntime) -> Result<(), TableFault> {
-    check_rows(rt.alloc(), LIMITS, '|', 5, explanation_of_row)
+    check_rows(rt.alloc(), LIMITS, '|', 6, explanation_of_row)
 }
 
 // The result for 128 layers and one more.

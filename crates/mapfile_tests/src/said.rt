@@ -160,7 +160,11 @@ fn said_of(alloc: Global, map: &Map) -> Result<String, AllocError> {
     for side in sides {
         write!(text, " {}", side.millionths())?;
     }
-    let font = if map.font.is_none() { "None" } else { "a font" };
+    let font = if map.fonts.len() == 0 {
+        "None"
+    } else {
+        "a font"
+    };
     write!(text, " {font} {}\n", map.symbols.len())?;
     for layer in map.layers.as_slice() {
         write_layer(&mut text, layer)?;

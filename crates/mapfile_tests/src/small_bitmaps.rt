@@ -75,6 +75,35 @@ a.map: warning: LAYER 1 has an empty NAME, so that LAYERS can't ask for it~a.map
 a.map: warning: LAYER 1 has an empty NAME, so that LAYERS can't ask for it~|4 32 16 1 15 17
 a.map: warning: LAYER 1 has an empty NAME, so that LAYERS can't ask for it~a.map: warning: LABELFONT is 13 pixels high, which WMS_SMOOTHING 4 shows as less than 8: bring one of 32 or more~a.map: warning: SYMBOL 1 is 5 pixels long, which WMS_SMOOTHING 4 shows as less than 4: bring one of 16 or more~a.map: warning: SYMBOL 2 is 15 pixels long, which WMS_SMOOTHING 4 shows as less than 4: bring one of 16 or more~|4 13 3 5 15 14";
 
+// The warnings on a map of factor 3 with two fonts of these heights.
+fn warnings_of_two(alloc: Global, row: &str) -> Result<String, AllocError> {
+    let Some([first, second]) = numbers::<2>(row, ' ') else {
+        return format!(in alloc; "malformed");
+    };
+    let (first, second) = (font_of(alloc, first)?, font_of(alloc, second)?);
+    let mut files = Files::new(alloc);
+    add_file(&mut files, alloc, "f.bdf", first.as_bytes())?;
+    add_file(&mut files, alloc, "g.bdf", second.as_bytes())?;
+    let source =
+        "MAP CONFIG WMS_SMOOTHING 3 CONFIG 'LABELFONT n' f.bdf CONFIG LABELFONT g.bdf WEB METADATA wms_onlineresource b END END END";
+    match parse(alloc, source.as_bytes(), &files) {
+        Ok(map) => warnings_on(alloc, &map),
+        Err(error) => format!(in alloc; "{error}"),
+    }
+}
+
+// Of several fonts each is named by its number.
+const TWO_FONTS: &str = "\
+|24 25
+a.map: warning: LABELFONT 1 is 23 pixels high, which WMS_SMOOTHING 3 shows as less than 8: bring one of 24 or more~|23 24
+a.map: warning: LABELFONT 2 is 22 pixels high, which WMS_SMOOTHING 3 shows as less than 8: bring one of 24 or more~|24 22
+a.map: warning: LABELFONT 1 is 9 pixels high, which WMS_SMOOTHING 3 shows as less than 8: bring one of 24 or more~a.map: warning: LABELFONT 2 is 8 pixels high, which WMS_SMOOTHING 3 shows as less than 8: bring one of 24 or more~|9 8";
+
+#[test]
+fn small_fonts_have_worked_warnings(rt: HostRuntime) -> Result<(), TableFault> {
+    check_rows(rt.alloc(), TWO_FONTS, '|', 4, warnings_of_two)
+}
+
 #[test]
 fn small_bitmaps_have_worked_warnings(rt: HostRuntime) -> Result<(), TableFault> {
     check_rows(rt.alloc(), ROWS, '|', 7, warnings_of_row)

@@ -1,9 +1,13 @@
+use crate::results::add_file;
 use mapdefs::Map;
 use mapparse::{Files, parse};
 use mapwarnings::warning_lines;
 use std::alloc::{AllocError, Global};
 use std::str;
 use test_tables::{TableFault, check_rows};
+
+// A font without glyphs.
+const FONT: &str = "STARTFONT 2.1\nFONTBOUNDINGBOX 5 7 0 0\nCHARS 0\nENDFONT\n";
 
 /// The warnings on a map, with `~` for the end of a line.
 pub fn warnings_on(alloc: Global, map: &Map) -> Result<String, AllocError> {
@@ -19,7 +23,8 @@ fn warnings_of_row(alloc: Global, row: &str) -> Result<String, AllocError> {
     let source = source.replace(alloc, '$', "\u{FFFE}")?;
     let source = source.replace(alloc, '%', "\u{FFFF}")?;
     let source = source.replace(alloc, ';', "\u{FFFD}")?;
-    let files = Files::new(alloc);
+    let mut files = Files::new(alloc);
+    add_file(&mut files, alloc, "f.bdf", FONT.as_bytes())?;
     match parse(alloc, source.as_str().as_bytes(), &files) {
         Ok(map) => warnings_on(alloc, &map),
         Err(error) => format!(in alloc; "{error}"),
@@ -54,6 +59,10 @@ a.map: warning: LAYER 1 has an EXPRESSION on an item that is none of its items~|
 a.map: warning: LAYER 1 has features and no CLASS~|MAP WEB METADATA wms_onlineresource b END END LAYER NAME a TYPE POINT FEATURE POINTS 1 2 END END END LAYER NAME b TYPE POINT END END
 a.map: warning: LAYER 2 has a CLASS without STYLE and LABEL~|MAP WEB METADATA wms_onlineresource b END END LAYER NAME a TYPE LINE CLASS STYLE END END END LAYER NAME b TYPE LINE CLASS STYLE END END CLASS END END END
 a.map: warning: LAYER 1 has a LABEL, and the map has no LABELFONT~|MAP WEB METADATA wms_onlineresource b END END LAYER NAME a TYPE LINE CLASS STYLE END END CLASS LABEL END END END END
+# fonts that labels name, and don't have
+a.map: warning: LAYER 1 has a FONT that is none of the map's fonts~|MAP WEB METADATA wms_onlineresource b END END CONFIG LABELFONT f.bdf LAYER NAME a TYPE LINE CLASS LABEL FONT n END END CLASS LABEL END END END END
+a.map: warning: LAYER 2 has a LABEL, and the map has no LABELFONT~a.map: warning: LAYER 2 has a FONT that is none of the map's fonts~|MAP WEB METADATA wms_onlineresource b END END CONFIG 'LABELFONT m' f.bdf LAYER NAME a TYPE LINE CLASS LABEL FONT m END END END LAYER NAME b TYPE LINE CLASS LABEL FONT M END END END END
+a.map: warning: LAYER 1 has a LABEL, and the map has no LABELFONT~|MAP WEB METADATA wms_onlineresource b END END CONFIG 'LABELFONT m' f.bdf LAYER NAME a TYPE LINE CLASS LABEL END END END END
 # an extent on the borders of the world, and beyond each
 |MAP EXTENT -180 -90 180 90 WEB METADATA wms_onlineresource b END END END
 a.map: warning: the service has an EXTENT beyond 180 degrees of longitude or 90 of latitude~|MAP EXTENT -180.000001 -90 180 90 WEB METADATA wms_onlineresource b END END END
@@ -65,5 +74,5 @@ a.map: warning: the service has no wms_onlineresource, and http://localhost/wms?
 
 #[test]
 fn maps_have_worked_warnings(rt: HostRuntime) -> Result<(), TableFault> {
-    check_rows(rt.alloc(), ROWS, '|', 27, warnings_of_row)
+    check_rows(rt.alloc(), ROWS, '|', 30, warnings_of_row)
 }
