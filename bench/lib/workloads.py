@@ -109,8 +109,8 @@ class Bench:
         picture = Picture(box, size)
         anchors = labelling.anchors_in(picture, [place for place, _, _ in features])
         shown = [(text, anchor, labels[rank]) for anchor, (_, text, rank) in zip(anchors, features) if anchor]
-        placed = labelling.place(font, size, shown)
-        labelling.paint(picture, font, placed)
+        placed = labelling.place({None: font}, size, shown)
+        labelling.paint(picture, {None: font}, placed)
         self.pictures(f"{name}, {len(placed):,} placed", text, "a", box, size, count, picture)
 
     def batches(self, name, mapfile, text, count):

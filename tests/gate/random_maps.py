@@ -6,7 +6,7 @@ Usage: random_maps.py PROGRAM [MAPS [SEED]]
 Each map has up to three layers, with rings, lines or points of up to 1,000 vertices, many of them of some blocks of 32 edges:
 scattered, in short steps, far off the view, spikes and equal vertices, on pixel centres, in one row, left of the view and
 beside its corner. Widths are 1 to 32, sizes 1 to 64; with smoothing lines are round. Points have squares or pixmaps, classes have bounds on the scale and
-labels. Of each map the program draws a picture without smoothing and one of each factor: that is the mean of the picture
+labels in three fonts. Of each map the program draws a picture without smoothing and one of each factor: that is the mean of the picture
 by the rules that is as many times as fine. Some boxes have no fine picture. The script ends with 1 if a picture differs, and
 leaves its map, with its files, in a folder below the one where it runs.
 
@@ -27,6 +27,8 @@ from smoothing import FONT, answers, means, pixels_of
 
 SIZES = [(40, 40), (61, 23), (24, 60), (33, 36), (520, 7)]
 FACTORS = (1, 2, 3, 4)
+# The names of fonts beside that of labels which name none.
+NAMES = ("tall-1", "wide_2")
 # A colour that no style has stands for nothing.
 NOTHING = (1, 2, 3)
 PPM, PAM, PNG = "image/x-portable-pixmap", "image/x-portable-arbitrarymap", "image/png"
@@ -147,6 +149,7 @@ def random_label():
     return Label(
         random.randint(1, 10), random.choice([None, colour(), colour()]), random.choice([None, colour()]), random.choice([0, 0, 1, 5]),
         random.choice([0, 0, 7, 20]), position, random.random() < 0.3, random.random() < 0.15, random.choice([1, 1, 2, 3, 8]),
+        font=random.choice([None, *NAMES, "unknown"]),
     )
 
 
@@ -204,6 +207,20 @@ def random_symbol(name):
     return name, [[colour() if random.random() < 0.7 else None for _ in range(width)] for _ in range(height)]
 
 
+def random_font():
+    """A font of some letters, whose boxes lie anywhere round the pen."""
+    high, letters = random.randint(1, 20), random.sample("abc?", random.randint(1, 4))
+    glyphs = "".join(random_glyph(letter) for letter in letters)
+    return f"STARTFONT 2.1\nFONTBOUNDINGBOX 9 {high} 0 {-random.randint(0, high)}\nCHARS {len(letters)}\n{glyphs}ENDFONT\n"
+
+
+def random_glyph(letter):
+    width, height = random.randint(1, 12), random.randint(1, 20)
+    rows = "".join(f"{random.getrandbits(width) << -width % 8:0{2 * (-(-width // 8))}X}\n" for _ in range(height))
+    box = f"{width} {height} {random.randint(-3, 3)} {random.randint(-5, 5)}"
+    return f"STARTCHAR {letter}\nENCODING {ord(letter)}\nDWIDTH {random.randint(0, 14)} 0\nBBX {box}\nBITMAP\n{rows}ENDCHAR\n"
+
+
 def pixmap(rows):
     pixels = [pixel or (255, 0, 255) for row in rows for pixel in row]
     return f"P6 {len(rows[0])} {len(rows)} 255\n".encode() + bytes(part for pixel in pixels for part in pixel)
@@ -212,10 +229,11 @@ def pixmap(rows):
 def mapfile(layers, symbols, factor):
     blocks = "".join(f'SYMBOL\nNAME "{name}"\nTYPE PIXMAP\nIMAGE "{name}.ppm"\nEND\n' for name, _ in symbols)
     config = f'CONFIG "WMS_SMOOTHING" "{factor}"\nCONFIG "LABELFONT" "f.bdf"\nCONFIG "WMS_FORMATS" "image/png"\n'
+    config += "".join(f'CONFIG "LABELFONT {name}" "{name}.bdf"\n' for name in NAMES)
     return f"MAP\nEXTENT -10 -10 10 10\n{config}{blocks}{''.join(line for layer in layers for line in layer.text())}END\n"
 
 
-def expected(layers, font, box, size, factor, ground):
+def expected(layers, fonts, box, size, factor, ground):
     """The pixels by the rules, as red, green, blue and alpha."""
     if min(box[2] - box[0], box[3] - box[1]) < factor:
         factor = 1
@@ -230,7 +248,7 @@ def expected(layers, font, box, size, factor, ground):
             (anchor,) = anchors_in(picture, [layer.anchor(parts)])
             if layer.label and text and anchor:
                 candidates.append((text, anchor, layer.label.finer(factor)))
-    paint(picture, font, place(font, fine, candidates))
+    paint(picture, fonts, place(fonts, fine, candidates))
     return means(with_alpha(picture.bytes()), *size, factor)
 
 
@@ -257,19 +275,26 @@ def query(layers, box, size, form, ground):
     return f"QUERY VERSION=1.3.0&REQUEST=GetMap&LAYERS={names}&STYLES=&CRS=CRS:84&BBOX={sides}&WIDTH={size[0]}&HEIGHT={size[1]}&FORMAT={form}&{seen}\n"
 
 
+def written_font(folder, name, text):
+    """The font of a file that is written with this text."""
+    path = folder / f"{name}.bdf"
+    path.write_text(text)
+    return Font(path)
+
+
 def differing(program, folder):
     """The views of a random map whose picture isn't the one by the rules, and how many were compared."""
     symbols = [random_symbol(name) for name in "st"]
     layers = [Layer(name, symbols) for name in "abc"[:random.randint(1, 3)]]
-    (folder / "f.bdf").write_text(FONT)
+    fonts = {None: written_font(folder, "f", FONT)} | {name: written_font(folder, name, random_font()) for name in NAMES}
     for name, rows in symbols:
         (folder / f"{name}.ppm").write_bytes(pixmap(rows))
-    font, wrong = Font(folder / "f.bdf"), []
+    wrong = []
     for factor in FACTORS:
         name, (box, size, form, ground) = f"factor{factor}.map", view()
         (folder / name).write_text(mapfile(layers, symbols, factor))
         (body,) = answers(program, folder, name, [query(layers, box, size, form, ground)])
-        if pixels_of(body) != (*size, expected(layers, font, box, size, factor, ground)):
+        if pixels_of(body) != (*size, expected(layers, fonts, box, size, factor, ground)):
             wrong.append(f"{name} by {query(layers, box, size, form, ground).strip()}")
     return wrong, len(FACTORS)
 

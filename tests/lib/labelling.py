@@ -61,6 +61,7 @@ class Label:
     is_forced: bool = False
     width: int = 1
     times: int = 1
+    font: str | None = None
 
     def words(self):
         """The block of a mapfile."""
@@ -68,6 +69,7 @@ class Label:
         outline = "OUTLINECOLOR %d %d %d\n" % self.outline if self.outline else ""
         more = ("PARTIALS TRUE\n" if self.is_partial else "") + ("FORCE TRUE\n" if self.is_forced else "")
         more += f"OUTLINEWIDTH {self.width}\n" if self.width > 1 else ""
+        more += f'FONT "{self.font}"\n' if self.font else ""
         return (
             f"LABEL\nCOLOR {colour}\n{outline}POSITION {self.position}\nPRIORITY {self.priority}\n"
             f"BUFFER {self.buffer}\nMINDISTANCE {self.distance}\n{more}END\n"
@@ -76,6 +78,10 @@ class Label:
     def finer(self, times):
         """The label on a picture so many times as fine."""
         return dataclasses.replace(self, buffer=times * self.buffer, distance=times * self.distance, times=times)
+
+    def font_of(self, fonts):
+        """Its font, of those by their names, else that of labels that name none."""
+        return fonts.get(self.font, fonts[None])
 
     def reach(self):
         """How many pixels the outline reaches."""
@@ -91,8 +97,8 @@ class Label:
         return [(i, j) for i in range(-reach, reach + 1) for j in range(-reach, reach + 1) if i * i + j * j <= reach * reach]
 
 
-def place(font, size, candidates):
-    """The labels of candidates, each a text, its anchor and its label: texts, their upper left pixels, labels."""
+def place(fonts, size, candidates):
+    """The labels of candidates, each a text, its anchor and its label: texts, their upper left pixels, labels. Fonts are by their names."""
     order = sorted(range(len(candidates)), key=lambda n: (candidates[n][2].priority, n), reverse=True)
     cells, anchors, placed = {}, {}, []
     for number in order:
@@ -100,8 +106,8 @@ def place(font, size, candidates):
         others = anchors.setdefault(text, [])
         if not label.is_forced and any(squared_distance(anchor, other) < label.distance**2 for other in others):
             continue
-        width = font.width(text)
-        more = label.buffer + label.reach()
+        font = label.font_of(fonts)
+        width, more = font.width(text), label.buffer + label.reach()
         for position in AUTO if label.position == "AUTO" else [label.position]:
             left, top = corner(position, anchor, width, font.height)
             box = (left - more, top - more, left + width + more, top + font.height + more)
@@ -143,10 +149,10 @@ def cells_of(box):
     ]
 
 
-def paint(picture, font, placed):
+def paint(picture, fonts, placed):
     """Paints labels in their order: of each the outline round all its ink, and then the ink."""
     for text, (left, top), label in placed:
-        ink = font.ink(text, left, top)
+        ink = label.font_of(fonts).ink(text, left, top)
         if label.outline:
             for i, j in {(x + i, y + j) for x, y in ink for i, j in label.steps()}:
                 picture.span(j, i, i + 1, label.outline)
