@@ -4,8 +4,11 @@ import subprocess
 
 # The dots an inch at which MapServer draws letters, so that a size in points is the same here.
 RESOLUTION = 96
-# The pixels of a side of a glyph at most.
-LONGEST = 64
+# The pixels that a side, an offset or an advance of a glyph has at most: those of a map, those of a smoothed one, and any font's.
+LONGEST, LONGEST_FINE, WIDEST_STEP = 64, 255, 255
+# The points of a font that otf2bdf makes, at most.
+MOST_POINTS = 256
+LETTERS = [code for code in range(128) if chr(code).isalnum()]
 RESEMBLING = ("0O", "0D", "OD", "1l", "1I", "lI")
 # Two letters are stretched to so many dots a side, and are alike where less than this share of the dots differs.
 SIDE, ALIKE = 24, 0.1
@@ -57,9 +60,26 @@ def alike_in(text):
     return [pair for pair in RESEMBLING if are_alike(letters.get(pair[0]), letters.get(pair[1]))]
 
 
-def made(path, size, times=1):
-    """A font of a size in points, so many times as large, as BDF; an empty text where otf2bdf makes none."""
-    return subprocess.run(["otf2bdf", "-p", str(size), "-r", str(times * RESOLUTION), path], capture_output=True).stdout.decode("latin-1")
+def longest(times):
+    """The pixels of a side of a glyph at most, in a font that is so many times as large as it is shown."""
+    return LONGEST if times == 1 else LONGEST_FINE
+
+
+def subset_of(codes):
+    """Numbers of characters as otf2bdf takes them, as 32_126 160."""
+    runs = []
+    for code in sorted(codes):
+        if runs and code == runs[-1][1] + 1:
+            runs[-1][1] = code
+        else:
+            runs.append([code, code])
+    return " ".join(f"{first}" if first == last else f"{first}_{last}" for first, last in runs)
+
+
+def made(path, size, dots=RESOLUTION, codes=()):
+    """A font of a size in points, at so many dots an inch, as BDF, of some characters or all; an empty text where otf2bdf makes none."""
+    subset = ["-l", subset_of(codes)] if codes else []
+    return subprocess.run(["otf2bdf", *subset, "-p", str(size), "-r", str(dots), path], capture_output=True).stdout.decode("latin-1")
 
 
 def sides_of(glyph):
@@ -67,13 +87,47 @@ def sides_of(glyph):
     return tuple(map(int, re.search(r"^(?:FONTBOUNDING)?B(?:BX|OX) (\d+) (\d+) (-?\d+) (-?\d+)", glyph, re.M).groups()))
 
 
-def fitted(text):
-    """A large BDF font without glyphs that are too large, and as high as its letters of ASCII."""
-    head, *glyphs = re.split(r"^(?=STARTCHAR )", text, flags=re.M)
-    glyphs[-1:] = [glyphs[-1].replace("ENDFONT\n", "")]
-    glyphs = [glyph for glyph in glyphs if all(abs(side) <= LONGEST for side in sides_of(glyph))]
-    boxes = [sides_of(glyph) for glyph in glyphs if (code := re.search(r"^ENCODING (\d+)", glyph, re.M)) and 32 < int(code[1]) < 127]
+def glyphs_of(text):
+    """The glyphs of a BDF font, each as it is written, by the numbers of their characters; those of no character aren't there."""
+    found = {}
+    for glyph in re.split(r"^(?=STARTCHAR )", text.replace("\nENDFONT\n", "\n"), flags=re.M)[1:]:
+        code = re.search(r"^ENCODING (\d+)", glyph, re.M)
+        if code:
+            found.setdefault(int(code[1]), glyph)
+    return found
+
+
+def reach_of(glyph):
+    """The longest of the sides and offsets of a glyph, in pixels."""
+    return max(abs(side) for side in sides_of(glyph))
+
+
+def is_small(glyph, most):
+    """Whether the program reads a glyph where sides have at most so many pixels."""
+    step = re.search(r"^DWIDTH (-?\d+)", glyph, re.M)
+    return reach_of(glyph) <= most and (step is None or 0 <= int(step[1]) <= WIDEST_STEP)
+
+
+def fitted(text, most=LONGEST):
+    """A BDF font without the glyphs that have more pixels a side, and as high as its letters of ASCII."""
+    head = re.split(r"^(?=STARTCHAR )", text, maxsplit=1, flags=re.M)[0]
+    glyphs = {code: glyph for code, glyph in glyphs_of(text).items() if is_small(glyph, most)}
+    boxes = [sides_of(glyph) for code, glyph in glyphs.items() if 32 < code < 127]
     left, bottom = min(box[2] for box in boxes), min(box[3] for box in boxes)
-    width, height = (min(max(box[at] + box[at + 2] for box in boxes) - first, LONGEST) for at, first in ((0, left), (1, bottom)))
+    width, height = (min(max(box[at] + box[at + 2] for box in boxes) - first, most) for at, first in ((0, left), (1, bottom)))
     head = re.sub(r"^FONTBOUNDINGBOX .*$", f"FONTBOUNDINGBOX {width} {height} {left} {bottom}", head, flags=re.M)
-    return re.sub(r"^CHARS .*$", f"CHARS {len(glyphs)}", head, flags=re.M) + "".join(glyphs) + "ENDFONT\n"
+    return re.sub(r"^CHARS .*$", f"CHARS {len(glyphs)}", head, flags=re.M) + "".join(glyphs.values()) + "ENDFONT\n"
+
+
+def greatest(path, size, dots, most):
+    """The greatest whole size, up to one, at which no letter or digit of ASCII has more than so many pixels a side; 0 where there is none."""
+    size = min(size, MOST_POINTS)
+    while size > 0:
+        letters = glyphs_of(made(path, size, dots, LETTERS)).values()
+        if not letters:
+            return 0
+        if all(is_small(glyph, most) for glyph in letters):
+            return size
+        # sides are as the size is, but for the pixel to which they are rounded
+        size = min(size - 1, size * most // max(map(reach_of, letters)) + 1)
+    return 0

@@ -2,7 +2,7 @@
 """Converts mapfiles of MapServer's and compares what is drawn. Usage: converted_maps.py PROGRAM [MAPFILE ..]
 
 Those of tests/mapserver/, which need Debian's r-cran-sf, r-cran-spdata and fonts-dejavu-core, those of Debian's
-python3-mapscript, and those that are given go through deploy/convert with four views each. It prints what becomes of each,
+python3-mapscript, and those that are given go through deploy/convert --smoothing 1 with four views each. It prints what becomes of each,
 and ends with 1 where one doesn't go through, or more than 4 % of the pixels of a view differ beyond half-tones.
 """
 import glob
@@ -24,7 +24,7 @@ def main():
     wrong = 0
     for path in found:
         with tempfile.TemporaryDirectory() as folder:
-            words = [os.path.join(TOP, "deploy", "convert"), path, folder, "--open", "--nameless", "--same-scales", "--compare", "4", "--program", sys.argv[1]]
+            words = [os.path.join(TOP, "deploy", "convert"), path, folder, "--open", "--nameless", "--same-scales", "--smoothing", "1", "--compare", "4", "--program", sys.argv[1]]
             ran = subprocess.run(words, capture_output=True, text=True, errors="replace")
         worst = re.search(r"at most ([\d.]+)% of the pixels", ran.stdout)
         counted = re.search(r"\d+ changed, \d+ left out", ran.stdout)

@@ -11,7 +11,7 @@ import loading
 
 CONSTANTS = {
     "MS_LAYER_POINT": 0, "MS_LAYER_LINE": 1, "MS_LAYER_POLYGON": 2, "MS_OFF": 0, "MS_ON": 1, "MS_TRUE": 1, "MS_NONE": 0,
-    "MS_STYLE_BINDING_LENGTH": 12, "MS_SYMBOL_PIXMAP": 1003,
+    "MS_STYLE_BINDING_LENGTH": 12, "MS_SYMBOL_PIXMAP": 1003, "MS_LABEL_BINDING_SIZE": 0, "MapServerError": OSError,
 }
 loading.has_package("mapscript", **CONSTANTS)
 loading.has_package("PIL", "Image")
@@ -136,7 +136,7 @@ class Painting(unittest.TestCase):
 def label_of(**given):
     """A label as MapServer has it, with its defaults."""
     values = dict(color=colour(10, 20, 30), outlinecolor=NONE, outlinewidth=1, position=110, priority=1, buffer=0, mindistance=-1, partials=0, force=0, font="sans",
-                  size=9, wrap="", numstyles=0, angle=0, anglemode=labels.mapscript.MS_NONE, rule=None, text="[name]", bound=None)
+                  size=9, minsize=4, maxsize=256, wrap="", numstyles=0, angle=0, anglemode=labels.mapscript.MS_NONE, rule=None, text="[name]", bound=None)
     made = SimpleNamespace(**{**values, **given})
     made.getExpressionString, made.getTextString = lambda: made.rule, lambda: made.text
     made.getBinding = lambda number: made.bound if number == 0 else None
@@ -147,24 +147,43 @@ def labels_of(*given, requires=None, item=None):
     """The labels of a layer whose classes have these, or none."""
     kinds = [SimpleNamespace(number=at + 4, given=SimpleNamespace(numlabels=int(label is not None), getLabel=lambda _, label=label: label, getTextString=lambda: None))
              for at, label in enumerate(given)]
-    return labels.Labels(SimpleNamespace(labelrequires=requires, labelitem=item), kinds, Report(), Node(("m.map", 7)))
+    made = labels.Labels(SimpleNamespace(labelrequires=requires, labelitem=item), kinds, Report(), Node(("m.map", 7)))
+    made.fonts = fonts_of([], 72)
+    return made
+
+
+def fonts_of(asked, resolution):
+    """The fonts of a map of a resolution, of which each is called sans-9; those that are asked for are noted."""
+    return SimpleNamespace(map=SimpleNamespace(resolution=resolution, defresolution=72), name_of=lambda named, size, place: asked.append((named, size)) or "sans-9")
 
 
 class Labels(unittest.TestCase):
-    def label(self, **given):
-        made = labels_of(label_of(**given))
-        lines, _ = made.lines(0, False)
-        self.fonts, self.report = made.fonts, made.report
-        return lines
+    def label(self, resolution=72, scale=1, **given):
+        """The lines of a label but its FONT, in a map of a resolution; `fonts` has the FONT and the size that are asked for."""
+        made, self.fonts = labels_of(label_of(**given)), []
+        made.scale, made.fonts = scale, fonts_of(self.fonts, resolution)
+        lines, label = made.lines(0, False)
+        self.assertEqual(lines[-1] if label else None, 'FONT "sans-9"' if label else None)
+        self.report = made.report
+        return lines and lines[:-1]
 
     def test_the_plainest(self):
         self.assertEqual(self.label(), ["COLOR 10 20 30", "POSITION AUTO", "PRIORITY 1"])
         self.assertEqual(self.fonts, [("sans", 9)])
 
-    def test_all_of_it(self):
-        lines = self.label(outlinecolor=colour(40, 50, 60), outlinewidth=3, position=104, priority=7, buffer=3, mindistance=80, partials=1, force=1, size=-1)
-        self.assertEqual(lines[1:], ["OUTLINECOLOR 40 50 60", "OUTLINEWIDTH 2", "POSITION LL", "PRIORITY 7", "BUFFER 3", "MINDISTANCE 80", "PARTIALS TRUE", "FORCE TRUE"])
+    def test_a_size_is_that_at_which_mapserver_draws(self):
+        rows = [({"size": 9.6}, 9), ({"size": 9, "resolution": 96}, 12), ({"size": 9, "scale": 2}, 18), ({"size": 2}, 4), ({"size": 20, "maxsize": 12}, 12), ({"size": 2, "minsize": 6, "resolution": 144}, 12)]
+        for given, size in rows:
+            self.label(**given)
+            self.assertEqual(self.fonts, [("sans", size)], given)
+        # MapServer gives 1 for a size that is bound to an item
+        self.label(size=1, bound="height")
         self.assertEqual(self.fonts, [("sans", 10)])
+
+    def test_all_of_it(self):
+        lines = self.label(outlinecolor=colour(40, 50, 60), outlinewidth=3, position=104, priority=7, buffer=3, mindistance=80, partials=1, force=1, font=None)
+        self.assertEqual(lines[1:], ["OUTLINECOLOR 40 50 60", "OUTLINEWIDTH 2", "POSITION LL", "PRIORITY 7", "BUFFER 3", "MINDISTANCE 80", "PARTIALS TRUE", "FORCE TRUE"])
+        self.assertEqual(self.fonts, [(None, 9)])
 
     def test_counts_stay_in_their_bounds(self):
         lines = self.label(outlinecolor=colour(40, 50, 60), outlinewidth=20)

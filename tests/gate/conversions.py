@@ -3,7 +3,7 @@
 
 Usage: conversions.py [--write]
 
-Each mapfile's report has to be the one that is stored beside it, byte by byte, and its map has to have what the table below
+Each mapfile's report has to be the one that is stored beside it, byte by byte, and its map has to have what tests/lib/wanted.py
 says, and nothing that is kept back. Of each keyword of docs/MAPSERVER.md that MapServer reads there has to be a line in the
 report, or it has to change what is written. What the layers of items.map answer has to be what MapServer answers, and labels
 have to be there for the features for which MapServer draws them. With --write the reports are stored. It needs Debian's
@@ -30,42 +30,7 @@ sys.path.insert(0, str(pathlib.Path(__file__).resolve().parents[1] / "lib"))
 import keywords
 import loading
 import told
-
-# What the map of a mapfile has to have, and what it must not have.
-WANTED = {
-    "include": (["EXPRESSION ([depth] > 2)", 'TITLE "Deep ponds"', "OUTLINECOLOR 86 52 38"], ["bunkers", "7 7"]),
-    "symbolset": (['NAME "fences"', "OUTLINECOLOR 20 40 60 WIDTH 3", "IMAGECOLOR 240 230 220"], ["fences_below", "WIDTH 7"]),
-    "fontset": (['TEXT "Upper Mill (12.3 k)"', 'TEXT "ford, 678"', 'TEXT "mine"'], ["LABELITEM", "12345"]),
-    "postgis": (["EXPRESSION {barn,mill}", 'ITEMS "1;barn"'], ["Ada", "Ben", "let", 'ITEMS "3']),
-    "expressions": (["EXPRESSION {oak,ash}", '("[kind]" =* "FIR")', "EXPRESSION {1+2}", 'ITEMS "second;2"'], ["oak tree", "shrub", "1 2 3"]),
-    "bound": (['TITLE "route: #1e3250, 3"', "EXPRESSION {1.2} STYLE COLOR 200 90 40 WIDTH 5", 'ITEMS "#1e3250;3;1.1"', 'ITEMS "1.2"', 'TITLE "1: 2"'], ["secret", "turn"]),
-    "casings": (["COLOR 130 120 110 WIDTH 3", "COLOR 250 250 250 WIDTH 1", "COLOR 90 80 70 WIDTH 6", "COLOR 240 200 40 WIDTH 4", "COLOR 200 200 200 WIDTH 4", "COLOR 20 20 20 WIDTH 2", "COLOR 30 90 200 WIDTH 5"], ["WIDTH 32"]),
-    "discs": ([
-        'CONFIG "WMS_SMOOTHING" "4"', 'SYMBOL NAME "disc" TYPE ELLIPSE POINTS 1 1 END FILLED TRUE END', 'STYLE SYMBOL "disc" COLOR 200 60 40 OUTLINECOLOR 250 250 240 SIZE 10 WIDTH 2 END',
-        'STYLE SYMBOL "disc" COLOR 20 60 110 SIZE 5 END', 'STYLE SYMBOL "disc" OUTLINECOLOR 30 70 120 SIZE 7 WIDTH 1 END', 'STYLE SYMBOL "disc" COLOR 70 110 160 SIZE 3 END',
-        'STYLE SYMBOL "dot1" END', 'STYLE SYMBOL "egg2" END', 'STYLE SYMBOL "square3" END',
-    ], ["40 80 130", "SIZE 6"]),
-    "counted": (['TEXT "well 1"', "2.375 3.5", 'NAME "sights"', 'ITEMS "well"'], ["crowds", 'NAME "dot3"', "class", 'TEXT "1"']),
-    "small": (['TEXT "28-029-1710"', 'CONFIG "LABELFONT" "labels.bdf"'], ["LABELITEM"]),
-    "mono": (['TEXT "28-029-1710"', 'CONFIG "LABELFONT" "labels.bdf"'], ["LABELITEM"]),
-    "patterns": (["COLOR 190 230 170 END", "STYLE COLOR 147 193 139 END", "STYLE OUTLINECOLOR 60 90 200 WIDTH 1 END", "STYLE OUTLINECOLOR 20 50 80 WIDTH 1 END", "STYLE COLOR 120 110 100 END"], ["COLOR 70 120 110"]),
-    "cluster": (["2.1 2", "1 3 5 3"], ["7 7", "9 8"]),
-    "ranges": (["COLOR 10 50 90", "COLOR 30 70 110", "COLOR 150 190 230", 'ITEMS "900;1.8"'], ["COLORRANGE"]),
-    "auto": (["9 51.505", "9.0013 51.505488"], ["1001875"]),
-    "substitution": (["([year] < 1990)"], ["%year%"]),
-    "limited": (['ITEMS "Ada;1990"', 'TEMPLATE "features"'], ["hunter2"]),
-    "opened": (['ITEMS "4"', 'TEMPLATE "features"'], ["swordfish"]),
-    # 2.5 degrees from corner to corner are 100 pixels of 0.025 degrees, each 2,782.987 m in 0.28 mm
-    "hidden": (["MAXSCALEDENOM 19878480.535714", "1 1 2.5 3"], ["hunter2", "1.125", "1.375", "1.625", "1.875", "6.125", "7.125", "7 7 7", "8 8 8"]),
-    "labels": (['TEXT "sesame"', 'ITEMS "one"'], ["hunter2", "xyzzy", "plugh", "plover", "swordfish", "grue"]),
-    "items": (['TITLE "1" EXPRESSION ([code] = 7)', 'ITEMS "Ada;1"', 'ITEMS "Ben;2"', 'NAME "silent"', 'ITEMS "7"'], ["hunter2", "swordfish", "xyzzy", "plugh", "plover", "5.625", "6.375", "debt", "8.375"]),
-}
-
-# The options of those of which there is no map else, and those that others are converted with.
-OPTIONS = {"limited": ["--shown"], "opened": ["--open"]}
-MORE = {"discs": ["--smoothing", "4"]}
-# Those with labels, for which a font is made.
-LABELLED = {"counted", "fontset", "labels", "small", "mono"}
+from wanted import LABELLED, MORE, OPTIONS, WANTED
 
 
 class Checks:
@@ -81,13 +46,13 @@ class Checks:
             print(words)
 
 
-def converted(convert, path, folder):
+def converted(convert, path, folder, *options):
     """The lines of the report by their places, and what was written; nothing where MapServer doesn't read it or nothing is left."""
     from mapconvert.report import Report
 
     report = Report()
     try:
-        convert.convert(convert.options_of([str(path), str(folder)]), report, convert.Made())
+        convert.convert(convert.options_of([str(path), str(folder), *options]), report, convert.Made())
     except convert.NoMap:
         return report, None
     return report, {name.name: name.read_bytes() for name in sorted(folder.iterdir())}
@@ -206,7 +171,7 @@ END
 def try_wide_mark(folder, checks):
     """A mark of 20 by 5 pixels is whole: its pixmap has both its ends, and has it in its middle."""
     (folder / "wide.map").write_text(WIDE)
-    _, made = converted(loading.script("deploy/convert"), folder / "wide.map", folder / "wide")
+    _, made = converted(loading.script("deploy/convert"), folder / "wide.map", folder / "wide", "--smoothing", "1")
     found = re.match(rb"P6\n(\d+) (\d+)\n255\n", made.get("bar1.ppm", b""))
     size = tuple(map(int, found.groups())) if found else None
     # the point stands in the middle of a pixel, so that an end may reach into one more
@@ -317,6 +282,28 @@ def try_labels(folder, checks):
         checks.that(found == wanted == there, f"LABELREQUIRES {rule}: {found} features have a text, and {there} of MapServer's")
 
 
+UNNAMED = """MAP NAME "unnamed" EXTENT 0 0 10 10 SIZE 300 300 WEB METADATA "ows_enable_request" "*" END END FONTSET "{maps}/fontset.list"
+LAYER NAME "a" TYPE POINT STATUS ON LABELITEM "word" PROCESSING "ITEMS=word"
+FEATURE POINTS 5 5 END ITEMS "Fir" END
+CLASS LABEL SIZE TINY TYPE BITMAP COLOR 0 0 0 END END END
+LAYER NAME "b" TYPE POINT STATUS ON LABELITEM "word" PROCESSING "ITEMS=word"
+FEATURE POINTS 5 5 END ITEMS "Oak" END
+CLASS LABEL FONT "s\u00fctterlin 2" SIZE 30 COLOR 0 0 0 END END END END
+"""
+
+
+def try_fonts_by_default(folder, checks):
+    """A label without FONT, of a bitmap font, or of one that the FONTSET lacks has a font nevertheless, of a name that is read, and a line says so."""
+    if not (shutil.which("otf2bdf") and os.path.exists("/usr/share/fonts/truetype/dejavu/DejaVuSans.ttf")):
+        return print("conversions: skipped: fonts by default, as otf2bdf or fonts-dejavu-core is missing")
+    (folder / "unnamed.map").write_text(UNNAMED.format(maps=MAPS), encoding="utf-8")
+    report, made = converted(loading.script("deploy/convert"), folder / "unnamed.map", folder / "unnamed")
+    text, lines = made["map.map"].decode(), report.text()
+    for name, line, said in (("plain-5", 4, "a LABEL without FONT: it has DejaVuSans"), ("s_tterlin_2-30", 7, "FONT s\u00fctterlin 2: the FONTSET has no file of it, so it is DejaVuSans")):
+        is_written = f'CONFIG "LABELFONT {name}" "{name}.bdf"' in text and f' FONT "{name}" END' in text and f"{name}.bdf" in made
+        checks.that(is_written and re.search(f"^unnamed.map:{line}: (note|changed): {said}", lines, re.M), f"fonts by default: no {name} in {text}, or no line: {lines}")
+
+
 # Keywords
 
 
@@ -342,12 +329,8 @@ def try_keywords(folder, checks):
     convert, bases = loading.script("deploy/convert"), {}
     from mapconvert import fonts
 
-    def write_font(map, alias, size, folder, times):
-        """The name of the font and its size, in place of the font, which takes half a second."""
-        pathlib.Path(folder, "labels.bdf").write_text(f"{alias} {size}")
-        return alias, size, []
-
-    fonts.write_font = write_font
+    # in place of each font, which takes a moment, its file and its size
+    fonts.font_of = lambda path, size, times, codes: (size, f"{path} {size}", [])
     (folder / "base.map").write_text("")
     for kind in told.SHAPES:
         (folder / "base.map").write_text(told.mapfile(kinds=[kind])[0])
@@ -383,6 +366,7 @@ def main():
         try_nameless(folder, checks)
         try_no_class_item(folder, checks)
         try_labels(folder, checks)
+        try_fonts_by_default(folder, checks)
         try_wide_mark(folder, checks)
         try_missing_source(folder, checks)
         try_keywords(folder, checks)

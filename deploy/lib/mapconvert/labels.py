@@ -1,9 +1,11 @@
 """The labels of a layer: which features have one, their texts, and the LABEL blocks."""
 import mapscript
 
-from mapconvert import conditions, texts
+from mapconvert import conditions, fonts, texts
 from mapconvert.styles import colour_of
 
+# The SIZE of a LABEL that gives none.
+USUAL_SIZE = 10
 POSITIONS = {101: "UL", 102: "LR", 103: "UR", 104: "LL", 105: "CR", 106: "CL", 107: "UC", 108: "LC", 109: "CC", 110: "AUTO"}
 
 
@@ -13,7 +15,9 @@ def outline_width(width):
 
 
 class Labels:
-    """The labels of one layer, of each class the first."""
+    """The labels of one layer, of each class the first. `fonts` has the fonts of the map, and `scale` is what their SIZE is multiplied by."""
+
+    fonts, scale = None, 1
 
     def __init__(self, layer, kinds, report, node):
         self.layer, self.kinds, self.report, self.node = layer, kinds, report, node
@@ -22,7 +26,6 @@ class Labels:
         self.visible = [are_drawn and can_be_seen(kind.given) for kind in kinds]
         self.sources = [self.source_of_text(kind.given) if sees else None for kind, sees in zip(kinds, self.visible)]
         self.rules = [kind.given.getLabel(0).getExpressionString() if sees else None for kind, sees in zip(kinds, self.visible)]
-        self.fonts = []
         for kind in kinds:
             self.say_bound(kind)
 
@@ -117,8 +120,14 @@ class Labels:
         lines += ["PARTIALS TRUE"] if label.partials else []
         lines += ["FORCE TRUE"] if label.force == mapscript.MS_TRUE else []
         self.lost(label, number)
-        self.fonts.append((label.font, label.size if label.size > 0 else 10))
-        return lines, label
+        return [*lines, f'FONT "{self.font(label, number)}"'], label
+
+    def font(self, label, number):
+        """The name of the font that a label has in the map."""
+        resolution = self.fonts.map.resolution / self.fonts.map.defresolution
+        given = USUAL_SIZE if label.getBinding(mapscript.MS_LABEL_BINDING_SIZE) else label.size
+        size = fonts.size_of(given * self.scale * resolution, label.minsize * resolution, label.maxsize * resolution)
+        return self.fonts.name_of(label.font, size, self.place(number, "LABEL", 0, "FONT"))
 
     def lost(self, label, number):
         """Says what of a label has no counterpart."""

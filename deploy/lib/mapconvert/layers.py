@@ -50,7 +50,7 @@ class LayerWriter:
             self.answered = []
             self.classes.decide(self.names)
         self.labels = Labels(self.layer, self.classes.kinds, self.report, self.node)
-        self.labels.fonts = self.options.fonts
+        self.labels.fonts, self.labels.scale = self.options.fonts, self.styled.factor
         self.features = reading.features(self.labels.text if any(self.labels.visible) else lambda found, values, given: None)
         self.classes.settle_values(self.features)
         self.hide_small_features()
@@ -204,6 +204,7 @@ class LayerWriter:
                 feature.values[COMPUTED] = self.classes.name(feature.classes)
             lines = shapes.vectors.block(feature, items, self.layer_report)
             if with_texts and feature.text:
+                self.options.fonts.characters.update(feature.text)
                 lines.insert(1, f"      TEXT {quoted(shapes.vectors.CONTROL.sub('?', feature.text))}")
             yield from lines
 
