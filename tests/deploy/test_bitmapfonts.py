@@ -3,6 +3,7 @@
 import pathlib
 import sys
 import unittest
+from unittest import mock
 
 sys.path.insert(0, str(pathlib.Path(__file__).resolve().parents[2] / "deploy" / "lib"))
 
@@ -81,6 +82,52 @@ class Fitted(unittest.TestCase):
         # the box is that of A and g: from -3 to 37 across, and from -11 to 40
         kept = "".join(glyph(*one) for one in (("A", 65, "30 40 7 0"), ("g", 103, "25 36 -3 -11"), ("Aring", 197, "30 52 1 0")))
         self.assertEqual(bitmapfonts.fitted(LARGE), f"STARTFONT 2.1\nFONTBOUNDINGBOX 40 51 -3 -11\nCHARS 3\n{kept}ENDFONT\n")
+
+    def test_more_fit_into_a_font_of_a_smoothed_map(self):
+        self.assertEqual([bitmapfonts.longest(times) for times in (1, 2, 4)], [64, 255, 255])
+        self.assertEqual(list(bitmapfonts.glyphs_of(bitmapfonts.fitted(LARGE, 255))), [65, 64, 103, 197, 8000])
+        self.assertTrue(bitmapfonts.fitted(LARGE, 255).startswith("STARTFONT 2.1\nFONTBOUNDINGBOX 68 51 -3 -11\nCHARS 5\n"))
+
+    def test_a_glyph_of_no_character_is_none_and_of_two_the_first_counts(self):
+        text = "STARTFONT 2.1\nCHARS 3\n" + glyph("a", -1, "1 1 0 0") + glyph("b", 66, "1 1 0 0") + glyph("c", 66, "2 2 0 0") + "ENDFONT\n"
+        self.assertEqual(bitmapfonts.glyphs_of(text), {66: glyph("b", 66, "1 1 0 0")})
+
+    def test_an_advance_has_at_most_255_pixels(self):
+        for step, is_small in ((0, True), (255, True), (256, False), (-1, False)):
+            self.assertEqual(bitmapfonts.is_small(glyph("A", 65, "3 4 0 0").replace("BBX", f"DWIDTH {step} 0\nBBX"), 64), is_small, step)
+
+    def test_characters_as_otf2bdf_takes_them(self):
+        self.assertEqual(bitmapfonts.subset_of({70, 32, 33, 34, 72, 71, 500}), "32_34 70_72 500")
+
+
+class Greatest(unittest.TestCase):
+    def greatest(self, size, side_at, most=64):
+        """The greatest size where the one letter is as many pixels wide as `side_at` says, and those that are tried."""
+        tried = []
+
+        def made(path, points, dots, codes):
+            tried.append(points)
+            return "STARTFONT 2.1\n" + (glyph("A", 65, f"{side_at(points)} 5 0 0") if side_at(points) else "") + "ENDFONT\n"
+
+        with mock.patch.object(bitmapfonts, "made", made):
+            return bitmapfonts.greatest("a.ttf", size, 96, most), tried
+
+    def test_a_size_that_fits_is_taken(self):
+        self.assertEqual(self.greatest(30, lambda points: 2 * points), (30, [30]))
+
+    def test_else_the_next_that_does_is_looked_for_below(self):
+        self.assertEqual(self.greatest(40, lambda points: 2 * points)[0], 32)
+        for size in range(1, 100):
+            # a side is rounded up
+            sides = lambda points: -(-133 * points // 100)
+            self.assertEqual(self.greatest(size, sides)[0], max(points for points in range(1, size + 1) if sides(points) <= 64))
+
+    def test_of_a_font_without_letters_there_is_none(self):
+        self.assertEqual(self.greatest(40, lambda points: 0), (0, [40]))
+        self.assertEqual(self.greatest(3, lambda points: 999)[0], 0)
+
+    def test_otf2bdf_makes_none_above_256_points(self):
+        self.assertEqual(self.greatest(900, lambda points: points, 255), (255, [256, 255]))
 
 
 if __name__ == "__main__":
