@@ -4,6 +4,8 @@
 docs/MAPFILE.md, and the server follows those alone: tests/gate/lint_agrees.py compares what lint and the server say.
 """
 
+import re
+
 # Keywords that count, by their block, with the number of their values; 0 for a block.
 COUNTS = {
     "MAP": {"NAME": 1, "EXTENT": 4, "CONFIG": 2, "WEB": 0, "SYMBOL": 0, "LAYER": 0},
@@ -17,7 +19,7 @@ COUNTS = {
     "STYLE": {"COLOR": 3, "OUTLINECOLOR": 3, "WIDTH": 1, "SIZE": 1, "SYMBOL": 1},
     "LABEL": {
         "COLOR": 3, "OUTLINECOLOR": 3, "POSITION": 1, "PRIORITY": 1, "BUFFER": 1, "MINDISTANCE": 1, "PARTIALS": 1,
-        "FORCE": 1, "OUTLINEWIDTH": 1,
+        "FORCE": 1, "OUTLINEWIDTH": 1, "FONT": 1,
     },
     "FEATURE": {"TEXT": 1, "ITEMS": 1, "POINTS": 0},
 }
@@ -41,7 +43,7 @@ UNUSED = {
     "CLASS": {"GROUP": 1, "NAME": 1, "TITLE": 1, "STATUS": 1, "TEMPLATE": 1},
     "STYLE": {"ANTIALIAS": 1, "MAXSIZE": 1, "MAXWIDTH": 1, "MINSIZE": 1, "MINWIDTH": 1},
     "LABEL": {
-        "ANTIALIAS": 1, "ENCODING": 1, "FONT": 1, "MAXSIZE": 1, "MINFEATURESIZE": 1, "MINSIZE": 1,
+        "ANTIALIAS": 1, "ENCODING": 1, "MAXSIZE": 1, "MINFEATURESIZE": 1, "MINSIZE": 1,
         "REPEATDISTANCE": 1, "SIZE": 1, "TYPE": 1, "OFFSET": 2, "STYLE": 0,
     },
     "FEATURE": {},
@@ -152,12 +154,14 @@ REFUSED_INNER = {"LABEL", "PATTERN", "STYLE", "VALUES"}
 # Keywords that count in a smoothed map alone, with what another one does.
 SMOOTHED = {"LABEL OUTLINEWIDTH": 'an outline is one pixel wide in a map without CONFIG "WMS_SMOOTHING"'}
 
+# Keywords that count where they name what another one gives.
+NAMED = {"LABEL FONT": 'it names the font of a CONFIG "LABELFONT name"; else it has no effect'}
+
 # Why a word has no effect, where that isn't plain.
 REASONS = {
     "PROJECTION": "coordinates are degrees, longitude before latitude",
-    "FONTSET": 'all labels have the font that CONFIG "LABELFONT" names',
-    "LABEL FONT": 'all labels have the font that CONFIG "LABELFONT" names',
-    "LABEL TYPE": 'all labels have the font that CONFIG "LABELFONT" names',
+    "FONTSET": 'each CONFIG "LABELFONT name" names the file of a font',
+    "LABEL TYPE": "all fonts are bitmap fonts",
     "LABEL SIZE": "letters are as large as the font has them, an n-th of that where the map is smoothed by n",
     "LABEL OFFSET": "POSITION alone says where a label stands",
     "LABEL STYLE": "a label has no box and no symbol",
@@ -247,7 +251,9 @@ DISC_REQUIRED = ["NAME", "POINTS", "FILLED"]
 OFFERED = {"WMS_FORMATS": "image/png image/x-portable-pixmap image/x-portable-arbitrarymap", "WMS_CRS": "EPSG:3857"}
 # The values of the key WMS_SMOOTHING.
 SMOOTHINGS = "1 2 3 4"
-# The keys of CONFIG that have an effect.
+# The keys of the fonts that have names, and how many names a map may have.
+FONT_KEY, MOST_FONTS = re.compile("LABELFONT ([A-Za-z0-9_-]+)"), 16
+# The other keys of CONFIG that have an effect.
 CONFIGS = {"LABELFONT", "WMS_SMOOTHING", *OFFERED}
 
 # What to write for a value of MapServer's that isn't taken, by block and keyword and then the value.

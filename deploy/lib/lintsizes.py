@@ -9,26 +9,34 @@ LETTERS, SYMBOL = 8, 4
 
 
 class Sizes:
-    """The factor of a mapfile, the value that gives it, its font and its pixmaps, by the tokens that name them."""
+    """The factor of a mapfile, the value that gives it, its fonts and its pixmaps, by the tokens that name their files.
+
+    A font is found by the key of its CONFIG; they stand in the order in which the keys were given last.
+    """
 
     def __init__(self):
-        self.factor, self.given, self.font, self.images = 1, None, None, []
+        self.factor, self.given, self.fonts, self.images = 1, None, {}, []
 
     def see(self, block, word, values):
         """Takes over what a keyword says of the factor, the font and pixmaps."""
         key = f"{block} {word}"
         if key == "MAP CONFIG" and values[0].text == "WMS_SMOOTHING" and values[1].text in keywords.SMOOTHINGS.split():
             self.factor, self.given = int(values[1].text), values[1]
-        elif key == "MAP CONFIG" and values[0].text == "LABELFONT":
-            self.font = values[1]
+        elif key == "MAP CONFIG" and (values[0].text == "LABELFONT" or keywords.FONT_KEY.fullmatch(values[0].text)):
+            self.fonts.pop(values[0].text, None)
+            self.fonts[values[0].text] = values[1]
         elif key == "SYMBOL IMAGE":
             self.images.append(values[0])
+
+    def names(self):
+        """The names of the fonts that have one."""
+        return {key.partition(" ")[2] for key in self.fonts} - {""}
 
     def warnings(self, folder):
         """The line and the words of each file in a folder that is too small; none of a file that can't be read."""
         if self.factor == 1:
             return
-        sought = [(self.font, height_of_font, LETTERS, "high")] if self.font else []
+        sought = [(token, height_of_font, LETTERS, "high") for token in self.fonts.values()]
         for token, size_of, least, across in [*sought, *((token, side_of_pixmap, SYMBOL, "long") for token in self.images)]:
             size = size_of(head_of(os.path.join(folder, token.text)))
             if size is not None and size < least * self.factor:

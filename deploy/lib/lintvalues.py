@@ -20,6 +20,8 @@ class Values:
             token = self.peek()
             if token is None or token.is_end():
                 self.differs(token.line if token else self.last_line, f"{word} has too few values: it takes {wanted}")
+                if f"{block} {word}" == "MAP CONFIG" and values:
+                    self.check_font_key(values[0])
                 return None
             values.append(self.token())
         return values
@@ -64,6 +66,7 @@ class Values:
 
     def check_config(self, name, values):
         """Whether what is offered, and the factor of a smoothed map, are among those that the server has."""
+        self.check_font_key(name)
         is_offer = name.text in keywords.OFFERED
         if not is_offer and name.text != "WMS_SMOOTHING":
             return
@@ -71,6 +74,16 @@ class Values:
         given = set(values[1].text.split(" ")) - {""} if is_offer else {values[1].text}
         if given - set(known):
             self.refused(values[1], f"CONFIG {name}", " or ".join(known))
+
+    def check_font_key(self, name):
+        """Whether the key of a font has a name, and the map has room for it."""
+        if not name.text.startswith("LABELFONT "):
+            return
+        found = keywords.FONT_KEY.fullmatch(name.text)
+        if found is None:
+            self.refused(name, "CONFIG", "behind LABELFONT one space and a name of letters, digits, - and _")
+        elif found[1] not in self.sizes.names() and len(self.sizes.names()) >= keywords.MOST_FONTS:
+            self.differs(name.line, f"{name} is one font too many, as a MAP has at most {keywords.MOST_FONTS} with a name: leave one out")
 
     def check_count(self, value, word, least, most):
         """Whether a value is a count within its bounds."""

@@ -208,6 +208,18 @@ class Files(unittest.TestCase):
         self.assertEqual(status, 0)
         return lines
 
+    def test_each_font_that_counts_is_looked_at(self):
+        self.write("f.bdf", "STARTFONT 2.1\nSIZE 20 75 75\nFONTBOUNDINGBOX 9 23 -1 -4\n")
+        fonts = "CONFIG 'LABELFONT a' 'f.bdf'\nCONFIG 'LABELFONT b' 'f.bdf'\nCONFIG LABELFONT 'f.bdf' CONFIG 'LABELFONT a' 'missing.bdf'"
+        _, lines = self.run_on("--quiet", self.write("m.map", f"MAP CONFIG WMS_SMOOTHING 3\n{fonts} END"))
+        self.assertEqual([line.partition(" is ")[0] for line in lines], ['m.map:3: "f.bdf"', 'm.map:4: "f.bdf"', "0 differences, 2 warnings"])
+
+    def test_a_label_names_a_font_of_the_map(self):
+        label = "LAYER NAME 'l' TYPE POINT CLASS LABEL FONT 'x' FONT\n'{}' END END END"
+        for given, said in (("a", []), ("A", ['m.map:2: FONT "A" has no effect here: no CONFIG "LABELFONT name" has this name'])):
+            _, lines = self.run_on(self.write("m.map", f"MAP {label.format(given)} CONFIG 'LABELFONT a' 'f.bdf' END"))
+            self.assertEqual(lines, [*said, f"0 differences, {len(said)} keyword{'' if len(said) == 1 else 's'} without effect"])
+
     def test_small_fonts_and_symbols_of_a_smoothed_map_get_a_warning(self):
         font = 'm.map:2: "f.bdf" is 23 pixels high, which WMS_SMOOTHING 3 shows as 7.67: bring one of 24 or more'
         symbol = 'm.map:3: "s.ppm" is 11 pixels long, which WMS_SMOOTHING 3 shows as 3.67: bring one of 12 or more'

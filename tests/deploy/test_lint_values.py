@@ -89,6 +89,21 @@ class Words(unittest.TestCase):
         self.assertEqual(shown("CONFIG 'WMS_SMOOTHING'\n'2.0'"), ['2: "2.0" is no value of CONFIG "WMS_SMOOTHING", which takes 1 or 2 or 3 or 4'])
         self.assertEqual(len(shown("CONFIG 'WMS_SMOOTHING' '' CONFIG 'WMS_SMOOTHING' '2 3'")), 2)
 
+    def test_keys_of_fonts(self):
+        self.assertEqual(shown("CONFIG 'LABELFONT' 'a.bdf' CONFIG 'LABELFONT Bold-12_a' 'b.bdf' CONFIG 'LABELFONTS' 'c.bdf' CONFIG 'LABELFONT' 'd.bdf'"), [])
+        taken = "is no value of CONFIG, which takes behind LABELFONT one space and a name of letters, digits, - and _"
+        for key in ("LABELFONT ", "LABELFONT  a", "LABELFONT a b", "LABELFONT a ", "LABELFONT \u00e9", "LABELFONT a."):
+            self.assertEqual(shown(f"CONFIG\n'{key}'\n'b.bdf'"), [f'2: "{key}" {taken}'])
+        # a key is judged before its value
+        self.assertIn(f'2: "LABELFONT " {taken}', shown("CONFIG\n'LABELFONT '\nEND"))
+
+    def test_a_map_has_at_most_16_fonts_with_a_name(self):
+        sixteen = "CONFIG LABELFONT a.bdf " + " ".join(f"CONFIG 'LABELFONT f{number}' a.bdf" for number in range(16))
+        self.assertEqual(shown(sixteen + " CONFIG 'LABELFONT f3' b.bdf"), [])
+        more = "one font too many, as a MAP has at most 16 with a name: leave one out"
+        self.assertEqual(shown(sixteen + "\nCONFIG 'LABELFONT F3'\nb.bdf"), [f'2: "LABELFONT F3" is {more}'])
+        self.assertIn(f'2: "LABELFONT g" is {more}', shown(sixteen + "\nCONFIG 'LABELFONT g'\n"))
+
     def test_data_is_a_table_of_points(self):
         self.assertEqual(in_layer("DATA 'a.csv'"), [])
         self.assertIn("a table of points in .csv alone", in_layer("DATA 'a.shp'")[0])

@@ -41,6 +41,11 @@ TABLE = [
     "WEB VALIDATION a b END METADATA 'wms_title' 't' END END\n{}",
     "WEB VALIDATION a END END\n{}",
     "CONFIG LABELFONT f.bdf CONFIG x y\n{}",
+    "CONFIG 'LABELFONT a-B_9' f.bdf CONFIG LABELFONT g.bdf CONFIG 'labelfont b' h.bdf CONFIG 'LABELFONTS x' i.bdf\n{}",
+    *(f"CONFIG\n'LABELFONT {name}'\nf.bdf\n{{}}" for name in ("", " a", "a b", "a ", "a.", "\u00e9", "a\ta")), "CONFIG\n'LABELFONT '\nEND\n{}",
+    " ".join(f"CONFIG 'LABELFONT f{number}' f.bdf" for number in range(16)) + " CONFIG LABELFONT g.bdf CONFIG 'LABELFONT f3' h.bdf\n{}",
+    " ".join(f"CONFIG 'LABELFONT f{number}' f.bdf" for number in range(16)) + "\nCONFIG 'LABELFONT F3'\nh.bdf\n{}",
+    " ".join(f"CONFIG 'LABELFONT f{number}' f.bdf" for number in range(16)) + "\nCONFIG 'LABELFONT f16'\nEND\n{}",
     "CONFIG WMS_FORMATS ' image/png  image/x-portable-pixmap' CONFIG WMS_CRS EPSG:3857 CONFIG WMS_CRS ''\n{}",
     "CONFIG WMS_FORMATS\nimage/gif CONFIG WMS_FORMATS image/png\n{}", "CONFIG WMS_CRS 'EPSG:3857\tEPSG:3857'\n{}", "CONFIG WMS_CRS epsg:3857\n{}",
     "CONFIG WMS_SMOOTHING 1 CONFIG 'WMS_SMOOTHING' '4' CONFIG wms_smoothing 9\n{}", "CONFIG WMS_SMOOTHING\n5 CONFIG WMS_SMOOTHING 2\n{}", "CONFIG WMS_SMOOTHING 2.0\n{}", "CONFIG WMS_SMOOTHING ''\n{}",
@@ -101,7 +106,7 @@ LABELS = [
     "COLOR 10 20 30 OUTLINECOLOR '#ffffff'", "POSITION ul", "POSITION FOLLOW", "PRIORITY 10", "PRIORITY 11", "PRIORITY [p]", "FORCE TRUE",
     "FORCE ON", "PARTIALS false", "MINDISTANCE -1", "MINDISTANCE 4097", "BUFFER -1", "OFFSET 1 2", "SIZE LARGE TYPE TRUETYPE FONT x",
     "ANGLE AUTO", "EXPRESSION (1=1)", "TEXT '[a]'", "STYLE GEOMTRANSFORM labelpoly COLOR 1 2 3 END", "STYLE STYLE END END", "WRAP ' '",
-    "STYLE METADATA END END", "STYLE LABEL STYLE END END END", "ALIGN CENTER", "MAXLENGTH 10",
+    "STYLE METADATA END END", "STYLE LABEL STYLE END END END", "ALIGN CENTER", "MAXLENGTH 10", "FONT\nEND", "FONT\n(a)", "FONT 'a' FONT ''",
 ]
 
 

@@ -9,7 +9,7 @@ WORDS = [
     b"STARTPROPERTIES", b"ON a", b"OFF a", b"CLEAR a", b"APPEND 8 a", b"BATCH 5", b"RETRY", b"QUERY", b"P6", b"P7",
     b"REQUEST=GetMap", b"LAYERS=", b"GetFeatureInfo", b"GetCapabilities", b"Content-Length: 0", b"Transfer-Encoding: chunked",
     b"Connection: close", b"HTTP/1.0", b"HTTP/1.1", b"GET / HTTP/1.1", b"AND", b"OR", b"NOT", b"IN", b"=*", b"[a]", b"0",
-    b"CONFIG WMS_SMOOTHING 2", b"ELLIPSE", b"FILLED", b"TRUE",
+    b"CONFIG WMS_SMOOTHING 2", b"CONFIG 'LABELFONT b' a.bdf", b"FONT b", b"ELLIPSE", b"FILLED", b"TRUE",
 ]
 NUMBERS = [
     b"0", b"-1", b"1", b"-0", b"00000000000000000001", b"64", b"65", b"255", b"256", b"2048", b"2049", b"65535", b"65536",
