@@ -105,8 +105,9 @@ class Fonts:
         alias, _, others = (named or "").partition(",")
         if not alias:
             # MapServer has no bitmap fonts any more: it reads over TYPE BITMAP, and TINY to GIANT are 5 to 16 points
-            tell = self.report.notes if plain == PLAIN_FONTS[0] else self.report.changed
-            tell(place, f"a LABEL without FONT: it has {os.path.basename(plain or 'none')}, where MapServer has DejaVu Sans Condensed")
+            is_its_own = plain == PLAIN_FONTS[0]
+            tell, how = (self.report.notes, "as in MapServer") if is_its_own else (self.report.changed, "where MapServer has DejaVu Sans Condensed")
+            tell(place, f"a LABEL without FONT: it has {os.path.basename(plain or 'none')}, {how}")
             return plain, "plain"
         path = path_of_font(self.map, alias)
         if path is None:
