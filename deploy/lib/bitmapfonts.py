@@ -4,7 +4,7 @@ import subprocess
 
 # The dots an inch at which MapServer draws letters, so that a size in points is the same here.
 RESOLUTION = 96
-# The pixels that a side, an offset or an advance of a glyph has at most: those of a map, those of a smoothed one, and any font's.
+# The pixels that a side or an offset of a glyph has at most, in a map and in a smoothed one, and those of an advance.
 LONGEST, LONGEST_FINE, WIDEST_STEP = 64, 255, 255
 # The points of a font that otf2bdf makes, at most.
 MOST_POINTS = 256

@@ -263,14 +263,14 @@ def try_made(program, lint, made, count):
             os.remove(path)
 
 
-# A mapfile of a factor with a font and two symbols, and the font.
-SIZED = "MAP CONFIG WMS_SMOOTHING {} CONFIG LABELFONT f.bdf SYMBOL NAME a TYPE PIXMAP IMAGE a.ppm END\nSYMBOL NAME b TYPE PIXMAP IMAGE b.ppm END END\n"
+# A mapfile of a factor with two fonts of one file and two symbols, and the file. A font whose file is replaced isn't looked at.
+SIZED = "MAP CONFIG 'LABELFONT b' none.bdf CONFIG WMS_SMOOTHING {} CONFIG LABELFONT f.bdf CONFIG 'LABELFONT b' f.bdf\nSYMBOL NAME a TYPE PIXMAP IMAGE a.ppm END\nSYMBOL NAME b TYPE PIXMAP IMAGE b.ppm END END\n"
 FONT = "STARTFONT 2.1\nFONTBOUNDINGBOX 5 {} 0 0\nCHARS 1\nSTARTCHAR c\nENCODING 65\nDWIDTH 3 0\nBBX 2 1 0 0\nBITMAP\nC0\nENDCHAR\nENDFONT\n"
 
 # The factor, the font's height, the sides of the symbols, and of how many is warned.
 SIZES = [
-    (1, 1, (1, 1), (2, 1), 0), (2, 16, (8, 1), (1, 8), 0), (2, 15, (7, 8), (9, 7), 1), (2, 16, (7, 7), (6, 5), 2), (3, 24, (12, 2), (11, 11), 1),
-    (3, 23, (11, 3), (3, 12), 2), (4, 32, (16, 15), (15, 16), 0), (4, 31, (15, 15), (1, 1), 3),
+    (1, 1, (1, 1), (2, 1), 0), (2, 16, (8, 1), (1, 8), 0), (2, 15, (7, 8), (9, 7), 2), (2, 16, (7, 7), (6, 5), 2), (3, 24, (12, 2), (11, 11), 1),
+    (3, 23, (11, 3), (3, 12), 3), (4, 32, (16, 15), (15, 16), 0), (4, 31, (15, 15), (1, 1), 4),
 ]
 
 
