@@ -90,7 +90,7 @@ find-all e (glyph ∷ glyphs) =
 font-is : (file font : FontFields) → IsFontOf file font → font ≡ record file { glyphs = by_encoding file.glyphs }
 font-is file font of_file =
     file-has-one-font file font (record file { glyphs = by_encoding file.glyphs }) of_file
-    (record { bounds = refl; glyphs = record { rising = rising-all file.glyphs; firsts = λ e. find-all e file.glyphs } })
+    (record { side = refl; bounds = refl; glyphs = record { rising = rising-all file.glyphs; firsts = λ e. find-all e file.glyphs } })
 
 pub font-read : (read : Result FontFields FontFault) (font : FontFields) → IsOkAnd read (λ file. IsFontOf file font) → font_by read ≡ Ok font
 font-read (Ok file) font is = ap (λ f. Ok f) (sym (font-is file font is))

@@ -1,7 +1,7 @@
 mod FontIs
+mod FontList
 mod Padding
 mod Replaced
 mod SymbolList
 mod TableList
-mod UsesInTurn
 mod Within

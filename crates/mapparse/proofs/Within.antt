@@ -15,6 +15,7 @@ use Rattle.mapwords.specs.declared.value.Value.{Value}
 use Rattle.maptree.specs.declared.tree.ClassTree.{ClassTree}
 use Rattle.maptree.specs.declared.tree.FeatureTree.{FeatureTree}
 use Rattle.maptree.specs.declared.tree.LayerTree.{LayerTree}
+use Rattle.mapparse.specs.declared.named_parts.NamedParts.{NamedParts}
 use Rattle.mapparse.specs.Mapping.{style_of, class_of, feature_of, layer_of}
 use Rattle.mapparse.proofs.Padding.{length-values}
 
@@ -23,7 +24,7 @@ pub feature_values : (count : ℕ) (features : List FeatureTree) → All (HasVal
 feature_values count features = All-map (HasValues count) (feature_of count) features (λ k feature below. length-values count _)
 
 -- each style names a symbol that is there
-module _ (symbols : List Symbol) where
+module _ (named : NamedParts) where
   last-within : (name : List ℕ) (some : List Symbol) → IfSome (last_named name some) (λ index. index < length some)
   last-within name [] = tt
   last-within name (symbol ∷ after) = of (last_named name after) (is_same_name symbol.name name) (last-within name after)
@@ -34,17 +35,17 @@ module _ (symbols : List Symbol) where
       of None true below = omega arith
       of None false below = tt
 
-  named-within : (named : Option Named) → IfSome (symbol_index symbols named) (λ index. index < length symbols)
+  named-within : (symbol : Option Named) → IfSome (symbol_index named.symbols symbol) (λ index. index < length named.symbols)
   named-within None = tt
-  named-within (Some named) = last-within named.text symbols
+  named-within (Some symbol) = last-within symbol.text named.symbols
 
-  pub style_symbols : (styles : List (List Value)) → All (NamesSymbolOf (length symbols)) (map (style_of symbols) styles)
-  style_symbols styles = All-map (NamesSymbolOf (length symbols)) (style_of symbols) styles (λ k style below. named-within _)
+  pub style_symbols : (styles : List (List Value)) → All (NamesSymbolOf (length named.symbols)) (map (style_of named) styles)
+  style_symbols styles = All-map (NamesSymbolOf (length named.symbols)) (style_of named) styles (λ k style below. named-within _)
 
-  pub class_symbols : (classes : List ClassTree) → All (ClassNamesSymbolsOf (length symbols)) (map (class_of symbols) classes)
+  pub class_symbols : (classes : List ClassTree) → All (ClassNamesSymbolsOf (length named.symbols)) (map (class_of named) classes)
   class_symbols classes =
-      All-map (ClassNamesSymbolsOf (length symbols)) (class_of symbols) classes (λ k class below. style_symbols _)
+      All-map (ClassNamesSymbolsOf (length named.symbols)) (class_of named) classes (λ k class below. style_symbols _)
 
-  pub layer_symbols : (layers : List (LayerTree × Option TableFields)) → All (LayerNamesSymbolsOf (length symbols)) (map (layer_of symbols) layers)
+  pub layer_symbols : (layers : List (LayerTree × Option TableFields)) → All (LayerNamesSymbolsOf (length named.symbols)) (map (layer_of named) layers)
   layer_symbols layers =
-      All-map (LayerNamesSymbolsOf (length symbols)) (layer_of symbols) layers (λ k layer below. class_symbols _)
+      All-map (LayerNamesSymbolsOf (length named.symbols)) (layer_of named) layers (λ k layer below. class_symbols _)

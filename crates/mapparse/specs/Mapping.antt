@@ -20,7 +20,7 @@ use Rattle.mapdefs.specs.declared.symbol.Symbol.{Symbol}
 use Rattle.mapwords.specs.declared.fault.Fault.{Fault}
 use Rattle.mapdefs.specs.Outcome.{and_then}
 use Rattle.mapwords.specs.declared.table.TextKeyword.{TextKeyword}
-use Rattle.mapwords.specs.declared.table.TextKeyword.TheVariants.{Name, ClassItem, LabelItem, Template, WmsTitle, OwsTitle, WmsOnlineResource, OwsOnlineResource}
+use Rattle.mapwords.specs.declared.table.TextKeyword.TheVariants.{Name, Font, ClassItem, LabelItem, Template, WmsTitle, OwsTitle, WmsOnlineResource, OwsOnlineResource}
 use Rattle.mapwords.specs.declared.table.CountKeyword.TheVariants.{Width, Size, Tolerance, Priority, Buffer, MinDistance}
 use Rattle.mapwords.specs.declared.table.FlagKeyword.TheVariants.{Partials, Force, Png, Mercator}
 use Rattle.mapwords.specs.declared.table.ScaleKeyword.TheVariants.{Min, Max}
@@ -36,33 +36,36 @@ use Rattle.maptree.specs.declared.tree.FeatureTree.{FeatureTree}
 use Rattle.maptree.specs.declared.tree.LayerTree.{LayerTree}
 use Rattle.maptree.specs.declared.tree.MapTree.{MapTree}
 use Rattle.mapdefs.specs.declared.font.FontFields.{FontFields}
-use Rattle.mapparse.specs.Fonts.{font_given}
+use Rattle.mapparse.specs.Fonts.{font_index, font_keys, fonts_of, is_unknown}
 use Rattle.mapparse.specs.declared.files.FileBytes.{FileBytes}
+use Rattle.mapparse.specs.declared.named_parts.NamedParts.{NamedParts}
 use Rattle.mapparse.specs.Symbols.{symbol_index, symbols_of}
 use Rattle.mapparse.specs.Tables.{column_x, column_y, tables_of, rows_of}
-use Rattle.mapparse.specs.Uses.{files_fault, font_file}
+use Rattle.mapparse.specs.Uses.{files_fault}
 
 -- the colour that is painted: that of a keyword, if it has one that isn't none
 abbrev pub painted : ColourKeyword → List Value → Option Rgb
 painted keyword given = option_flatten (last (colour_in keyword) given)
 
 -- a style has its colours, its width and its size, one pixel each by default, and the symbol that it names
-abbrev pub style_of : List Symbol → List Value → StyleFields
-style_of symbols style = record {
+abbrev pub style_of : NamedParts → List Value → StyleFields
+style_of named style = record {
   colour = painted Color style;
   outline = painted OutlineColor style;
   width = unwrap_or (last (count_in Width) style) 1;
   size = unwrap_or (last (count_in Size) style) 1;
-  symbol = symbol_index symbols (symbol_of style);
+  symbol = symbol_index named.symbols (symbol_of style);
 }
 
--- by default a label is black, its outline one pixel wide, has the priority 1, stands centred on its anchor, keeps no distance, and is neither cut off
--- nor placed over others
-abbrev pub label_of : List Value → LabelFields
-label_of label = record {
+-- a label has the font that it names, else that of labels that name none; by default it is black, its outline one pixel wide, has the priority 1,
+-- stands centred on its anchor, keeps no distance, and is neither cut off nor placed over others
+abbrev pub label_of : NamedParts → List Value → LabelFields
+label_of named label = record {
   colour = unwrap_or (last (colour_in Color) label) (Some (record { red = 0; green = 0; blue = 0 }));
   outline = painted OutlineColor label;
   outline_width = unwrap_or (outline_width_of label) 1;
+  font = font_index named.fonts (last (words_in Font) label);
+  lacks_font = is_unknown named.fonts (last (words_in Font) label);
   priority = unwrap_or (last (count_in Priority) label) 1;
   position = unwrap_or (last position_in label) Centre;
   buffer = unwrap_or (last (count_in Buffer) label) 0;
@@ -72,13 +75,13 @@ label_of label = record {
 }
 
 -- a class has its rule, without which it takes each feature, its bounds on the scale, its styles and its label
-abbrev pub class_of : List Symbol → ClassTree → ClassFields
-class_of symbols class = record {
+abbrev pub class_of : NamedParts → ClassTree → ClassFields
+class_of named class = record {
   rule = unwrap_or (last rule_in class.values) Always;
   min = last (scale_in Min) class.values;
   max = last (scale_in Max) class.values;
-  styles = map (style_of symbols) class.styles;
-  label = option_map label_of class.label;
+  styles = map (style_of named) class.styles;
+  label = option_map (label_of named) class.label;
 }
 
 -- a byte is a semicolon
@@ -139,10 +142,10 @@ empty_layer name geometry given = record {
 }
 
 -- it has its items and its classes, and after the features that it is given the rows of its table
-abbrev pub layer_of : List Symbol → LayerTree × Option TableFields → LayerFields
-layer_of symbols (layer, table) = record (empty_layer layer.name.text layer.geometry layer.body.values) {
+abbrev pub layer_of : NamedParts → LayerTree × Option TableFields → LayerFields
+layer_of named (layer, table) = record (empty_layer layer.name.text layer.geometry layer.body.values) {
   items = named_items (last items_in layer.body.values) table;
-  classes = map (class_of symbols) layer.body.classes;
+  classes = map (class_of named) layer.body.classes;
   features = map (feature_of (length (named_items (last items_in layer.body.values) table))) layer.body.features ++ rows_of table;
 }
 
@@ -156,18 +159,18 @@ whole_world = record {
 }
 
 -- a map has the title and the address of its service, its extent, without which it shows the whole world, what it offers
--- beside what each map does, how many times as fine the pictures are that are averaged, its font, its symbols and its layers
-abbrev pub map_with : List Symbol → List (Option TableFields) → Option FontFields → MapTree → MapFields
-map_with symbols tables font tree = record {
+-- beside what each map does, how many times as fine the pictures are that are averaged, its fonts, its symbols and its layers
+abbrev pub map_with : List Symbol → List (Option TableFields) → List FontFields → MapTree → MapFields
+map_with symbols tables fonts tree = record {
   title = unwrap_or (service_title tree.values) (codes "WMS");
   url = unwrap_or (either_text WmsOnlineResource OwsOnlineResource tree.values) (codes "http://localhost/wms?");
   extent = unwrap_or (last extent_in tree.values) whole_world;
   png = unwrap_or (last (flag_in Png) tree.values) false;
   mercator = unwrap_or (last (flag_in Mercator) tree.values) false;
   smoothing = factor_in tree.values;
-  font = font;
+  fonts = fonts;
   symbols = symbols;
-  layers = map (layer_of symbols) (zip tree.layers tables);
+  layers = map (layer_of (record { symbols = symbols; fonts = font_keys tree.files })) (zip tree.layers tables);
 }
 
 -- the map that a mapfile describes, where all of its files are what it uses them as
@@ -175,7 +178,7 @@ abbrev pub made_of : List FileBytes → MapTree → Result MapFields Fault
 made_of files tree =
     and_then (symbols_of files tree.symbols) (λ symbols.
     and_then (tables_of files tree.layers) (λ tables.
-    and_then (font_given files (font_file tree)) (λ font. Ok (map_with symbols tables font tree))))
+    and_then (fonts_of files tree) (λ fonts. Ok (map_with symbols tables fonts tree))))
 
 -- where one of them isn't, the fault that comes first is reported
 abbrev pub reported_by : Option Fault → Result MapFields Fault → Result MapFields Fault

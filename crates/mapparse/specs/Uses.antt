@@ -1,5 +1,5 @@
 -- The files that a mapfile uses, and which of their faults is reported (docs/MAPFILE.md, "Files").
-use Rattle.std.specs.Prelude.{◌≡◌, ℕ, Bool, true, false, not, ◌&&◌, ◌||◌, ◌==◌, if◌then◌else◌, IfSome, slice_get, List, [], ◌∷◌, ◌++◌, map, take, drop, Option, None, Some}
+use Rattle.std.specs.Prelude.{◌≡◌, ℕ, Bool, true, false, not, ◌&&◌, ◌||◌, ◌==◌, if◌then◌else◌, IfSome, slice_get, List, [], ◌∷◌, ◌++◌, map, Option, None, Some}
 use Rattle.std.specs.List.{list_any}
 use Rattle.std.specs.Result.{is_err}
 use Rattle.mapdefs.specs.Name.{is_same_name}
@@ -11,16 +11,16 @@ use Rattle.maptree.specs.declared.tree.LayerTree.{LayerTree}
 use Rattle.maptree.specs.declared.tree.MapTree.{MapTree}
 use Rattle.mapwords.specs.declared.named.Named.{Named}
 use Rattle.maptree.specs.declared.tree.SymbolTree.{SymbolTree}
+use Rattle.maptree.specs.declared.tree.UsedFile.{UsedFile}
 use Rattle.maptree.specs.Symbol.{first_fault}
-use Rattle.mapvalues.specs.Values.{last, text_in}
-use Rattle.mapwords.specs.declared.table.TextKeyword.TheVariants.{LabelFont}
+use Rattle.mapwords.specs.declared.value.Value.{Value}
 use Rattle.symbols.specs.Format.{pixmap_of}
 use Rattle.mapparse.specs.declared.fault.FileCause.{FileCause}
 use Rattle.mapparse.specs.declared.fault.FileCause.TheVariants.{Missing, NoFont, NoPixmap, NoTable}
 use Rattle.mapparse.specs.declared.fault.FileFault.{FileFault}
 use Rattle.mapparse.specs.declared.files.FileBytes.{FileBytes}
 use Rattle.mapparse.specs.Files.{bytes_in}
-use Rattle.mapparse.specs.Fonts.{font_of}
+use Rattle.mapparse.specs.Fonts.{font_of, is_font, most_side}
 use Rattle.mapparse.specs.Tables.{table_for}
 
 -- one of the files has this name
@@ -36,18 +36,9 @@ abbrev pub uses_after : List Named → List Named → List Named
 uses_after firsts [] = firsts
 uses_after firsts (file ∷ files) = uses_after (with_use firsts file) files
 
--- the file that the font of the labels is in
-abbrev pub font_file : MapTree → Option Named
-font_file tree = last (text_in LabelFont) tree.values
-
--- files, with that of a font after those that are used before it
-abbrev pub with_font : Option Named → ℕ → List Named → List Named
-with_font None before files = files
-with_font (Some file) before files = take before files ++ file ∷ drop before files
-
 -- the first use of each file, in their order
 abbrev pub first_uses : MapTree → List Named
-first_uses tree = uses_after [] (with_font (font_file tree) tree.before_font tree.files)
+first_uses tree = uses_after [] (map (λ (used : UsedFile). used.file) tree.files)
 
 -- the names of the files that a mapfile uses, each once, in the order of their first use
 abbrev pub uses_of : MapTree → List (List ℕ)
@@ -66,23 +57,26 @@ lacks_pixmap name bytes symbol = is_named name symbol.image && is_err (pixmap_of
 abbrev pub lacks_table : List ℕ → List ℕ → LayerTree → Bool
 lacks_table name bytes layer = is_named name layer.table && is_err (table_for layer bytes)
 
--- the map has its font in the file of this name, but its bytes are no font
-abbrev pub lacks_font : List ℕ → List ℕ → Option Named → Bool
-lacks_font name bytes None = false
-lacks_font name bytes (Some file) = is_same_name file.text name && is_err (font_of bytes)
+-- the file of this name is used as a font, but its bytes are no font of a map with these values
+abbrev pub lacks_font : List Value → List ℕ → List ℕ → UsedFile → Bool
+lacks_font given name bytes used = (is_font used && is_same_name used.file.text name) && is_err (font_of (most_side given) bytes)
+
+-- so it is in a map
+abbrev pub lacks_some_font : MapTree → List ℕ → List ℕ → Bool
+lacks_some_font tree name bytes = list_any (lacks_font tree.values name bytes) tree.files
 
 -- the bytes of the file of this name don't fit some use of it
 abbrev pub is_bad : MapTree → List ℕ → List ℕ → Bool
 is_bad tree name bytes =
-    list_any (lacks_pixmap name bytes) tree.symbols || list_any (lacks_table name bytes) tree.layers || lacks_font name bytes (font_file tree)
+    list_any (lacks_pixmap name bytes) tree.symbols || list_any (lacks_table name bytes) tree.layers || lacks_some_font tree name bytes
 
--- the use that the bytes don't fit, by the reader that refuses them: of a symbol's image, else of a layer's table, else of the font
+-- the use that the bytes don't fit, by the reader that refuses them: of a symbol's image, else of a layer's table, else of a font
 abbrev pub refuses : MapTree → List ℕ → List ℕ → FileCause → Bool
 refuses tree name bytes Missing = false
 refuses tree name bytes (NoPixmap fault) = list_any (lacks_pixmap name bytes) tree.symbols
 refuses tree name bytes (NoTable fault) = not (list_any (lacks_pixmap name bytes) tree.symbols) && list_any (lacks_table name bytes) tree.layers
 refuses tree name bytes (NoFont fault) =
-    not (list_any (lacks_pixmap name bytes) tree.symbols) && (not (list_any (lacks_table name bytes) tree.layers) && lacks_font name bytes (font_file tree))
+    not (list_any (lacks_pixmap name bytes) tree.symbols) && (not (list_any (lacks_table name bytes) tree.layers) && lacks_some_font tree name bytes)
 
 -- two names of files are one, on one line
 abbrev pub is_same_use : Named → Named → Bool
@@ -93,11 +87,15 @@ abbrev pub is_used_there : Named → Option Named → Bool
 is_used_there there None = false
 is_used_there there (Some file) = is_same_use file there
 
+-- a font is in a file, and that is named there
+abbrev pub is_font_there : Named → UsedFile → Bool
+is_font_there there used = is_font used && is_same_use used.file there
+
 -- the keyword that names a file there
 abbrev pub keyword_of : MapTree → Named → Keyword
 keyword_of tree there =
     if list_any (λ (symbol : SymbolTree). is_used_there there symbol.image) tree.symbols then Image
-    else (if is_used_there there (font_file tree) then Config else Data)
+    else (if list_any (is_font_there there) tree.files then Config else Data)
 
 -- the keyword of the use that a cause is about: of a missing file that of its first use
 abbrev pub keyword_by : MapTree → Named → FileCause → Keyword

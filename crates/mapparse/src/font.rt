@@ -1,25 +1,45 @@
-ghost use Rattle.std.specs.Prelude.{◌≡◌, option_map, Ok, IfOk, IfErr};
+ghost use Rattle.std.specs.Prelude.{◌≡◌, Ok, IfOk, IfErr};
 ghost use Rattle.mapwords.specs.Fault.{IsFaultOf};
-ghost use Rattle.mapparse.specs.Fonts.{font_of, font_in, font_given, IsFontErrorOf};
+ghost use Rattle.mapparse.specs.Fonts.{font_of, font_in, fonts_of, is_font, most_side, IsFontErrorOf};
 
 use crate::files::Files;
-use bdffont::{FontError, read};
-use mapdefs::{Font, Shared};
-use maptree::{Named, ParseFault, ParseKind};
+use bdffont::{FontError, read_within};
+use mapdefs::{Font, Items, MAX_FINE_GLYPH_SIDE, MAX_GLYPH_SIDE, SharedItems};
+use maptree::{MapTree, Named, ParseFault, ParseKind, UsedFile, factor_in};
+use mapvalues::Values;
 use std::alloc::Global;
 
-/// The font that the bytes of a file are.
-pub fn font_of(bytes: &[u8], alloc: Global) -> Result<Font, FontError>
-    ensures font { IfOk result (λ font. font_of bytes.now ≡ Ok font) }
-    ensures error { IfErr result (IsFontErrorOf (font_of bytes.now)) }
+/// The greatest side and offset that the boxes of fonts may have in a map with these values, in pixels. Those of a smoothed
+/// map are of its fine pictures.
+pub fn most_side(given: &Values) -> u8
+    ensures { result ≡ most_side given.now }
 {
-    read(alloc, bytes)
+    if factor_in(given).times() == 1 {
+        MAX_GLYPH_SIDE
+    } else {
+        MAX_FINE_GLYPH_SIDE
+    }
+}
+
+/// The font that the bytes of a file are, with boxes of sides and offsets of at most so many pixels.
+pub fn font_of(most: u8, bytes: &[u8], alloc: Global) -> Result<Font, FontError>
+    ensures font { IfOk result (λ font. font_of most bytes.now ≡ Ok font) }
+    ensures error { IfErr result (IsFontErrorOf (font_of most bytes.now)) }
+{
+    read_within(alloc, most, bytes)
+}
+
+/// Whether a file is used as a font.
+pub fn is_font(used: &UsedFile) -> bool
+    ensures { result ≡ is_font used.now }
+{
+    used.font.is_some()
 }
 
 // The font in a file.
-fn font_in(files: &Files, file: &Named, alloc: Global) -> Result<Font, ParseFault>
-    ensures font { IfOk result (λ font. font_in files.now file.now ≡ Ok font) }
-    ensures fault { IfErr result (IsFaultOf (font_in files.now file.now)) }
+fn font_in(most: u8, files: &Files, file: &Named, alloc: Global) -> Result<Font, ParseFault>
+    ensures font { IfOk result (λ font. font_in most files.now file.now ≡ Ok font) }
+    ensures fault { IfErr result (IsFaultOf (font_in most files.now file.now)) }
 {
     let line = file.line;
     let Some(bytes) = files.bytes(file.text.as_str()) else {
@@ -28,7 +48,7 @@ fn font_in(files: &Files, file: &Named, alloc: Global) -> Result<Font, ParseFaul
             kind: ParseKind::MissingFile,
         });
     };
-    match font_of(bytes, alloc) {
+    match font_of(most, bytes, alloc) {
         Ok(font) => Ok(font),
         Err(FontError::NoMemory) => Err(ParseFault::NoMemory),
         Err(FontError::Fault(_)) => Err(ParseFault::At {
@@ -38,20 +58,22 @@ fn font_in(files: &Files, file: &Named, alloc: Global) -> Result<Font, ParseFaul
     }
 }
 
-/// The font of a map, if it names one.
-pub fn font_given(
-    file: Option<&Named>,
+/// The fonts of a map, in the order of their uses.
+pub fn fonts_of(
+    tree: &MapTree,
     files: &Files,
     alloc: Global,
-) -> Result<Option<Shared<Font>>, ParseFault>
-    ensures font { IfOk result (λ made. font_given files.now (option_map (λ x. x.now) file.entry) ≡ Ok made) }
-    ensures fault { IfErr result (IsFaultOf (font_given files.now (option_map (λ x. x.now) file.entry))) }
+) -> Result<SharedItems<Font>, ParseFault>
+    ensures fonts { IfOk result (λ made. fonts_of files.now tree.now ≡ Ok made) }
+    ensures fault { IfErr result (IsFaultOf (fonts_of files.now tree.now)) }
 {
-    match file {
-        Some(file) => {
-            let font = font_in(files, file, alloc)?;
-            Ok(Some(Shared::new(alloc, font)?))
+    let most = most_side(&tree.values);
+    let mut fonts = Items::new(alloc);
+    let all = tree.files.as_slice();
+    for used in all {
+        if is_font(used) {
+            fonts.push(font_in(most, files, &used.file, alloc)?)?;
         }
-        None => Ok(None),
     }
+    Ok(SharedItems::new(alloc, fonts)?)
 }

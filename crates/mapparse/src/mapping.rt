@@ -1,36 +1,37 @@
 ghost use Rattle.std.specs.Prelude.{◌≡◌, ◌+◌, ◌≤◌, List, map, zip, length, option_map, unwrap_or, Ok, IfOk, IfErr};
-ghost use Rattle.mapdefs.specs.declared.symbol.Symbol.{Symbol as SymbolValue};
 ghost use Rattle.mapwords.specs.Fault.{IsFaultOf};
 ghost use Rattle.geom.specs.World.{IsExtent};
 ghost use Rattle.mapdefs.specs.declared.limits.TheConstants.{MAX_CLASSES, MAX_OUTLINE_WIDTH, MAX_SYMBOLS};
 ghost use Rattle.mapdefs.specs.ClassLimits.{IsRuleWithinLimits};
 ghost use Rattle.mapdefs.specs.declared.class.Rule.TheVariants.{Always};
 ghost use Rattle.mapparse.specs.Mapping.{painted, label_of, class_of, layer_of, whole_world, map_with, made_of, map_of};
-ghost use Rattle.mapparse.specs.Fonts.{font_given};
+ghost use Rattle.mapparse.specs.declared.named_parts.NamedParts.{NamedParts as NamedPartsValue};
+ghost use Rattle.mapparse.specs.Fonts.{font_keys, fonts_of};
 ghost use Rattle.maptree.specs.Outline.{outline_width_of};
-ghost use Rattle.mapparse.specs.Uses.{font_file};
 ghost use Rattle.mapparse.specs.Symbols.{symbols_of};
 ghost use Rattle.mapparse.specs.Tables.{tables_of, HasRoom, HaveRoom};
 
 use crate::features::with_items;
 use crate::files::Files;
-use crate::font::font_given;
+use crate::font::fonts_of;
+use crate::font_key::{font_index, font_keys, is_unknown};
+use crate::named_parts::NamedParts;
 use crate::settings::{count_or, empty_layer, service_title, service_url, text_or};
 use crate::symbol::{symbol_index, symbols_of};
 use crate::table::tables_of;
-use crate::uses::{files_fault, font_file};
+use crate::uses::files_fault;
 use csvpoints::Table;
 use geom::{Micro, WorldBox};
 use mapdefs::{
     Class, ClassFields, Font, Items, Label, LabelFields, Layer, LayerFields, MAX_CLASSES, Map,
-    MapFields, Position, Rgb, Rule, Shared, SharedItems, Style, StyleFields, Symbol,
+    MapFields, Position, Rgb, Rule, SharedItems, Style, StyleFields, Symbol,
 };
 use maptree::{
     Capped, ClassRule, ClassTree, Extent, LayerBody, LayerTree, MapTree, Named, ParseFault,
-    factor_in, outline_width_of, symbol_of,
+    UsedFile, factor_in, outline_width_of, symbol_of,
 };
 use mapvalues::Values;
-use mapwords::{ColourKeyword, CountKeyword, FlagKeyword, ScaleKeyword};
+use mapwords::{ColourKeyword, CountKeyword, FlagKeyword, ScaleKeyword, TextKeyword};
 use std::alloc::{AllocError, Global};
 
 // A tree of a block, from which a part of the map is made.
@@ -38,25 +39,25 @@ trait Build: Drop + Sized {
     // The part of the map.
     type Part: Drop;
 
-    // The part that the tree describes, in a map with these symbols.
-    ghost part: { List SymbolValue → Self → Self.Part };
+    // The part that the tree describes, in a map with these parts that it may name.
+    ghost part: { NamedPartsValue → Self → Self.Part };
 
     // Makes the part.
-    fn build(self, symbols: &[Symbol], alloc: Global) -> Result<Self::Part, AllocError>
-        ensures { IfOk result (λ made. made ≡ part symbols.now self) };
+    fn build(self, named: &NamedParts, alloc: Global) -> Result<Self::Part, AllocError>
+        ensures { IfOk result (λ made. made ≡ part named.now self) };
 }
 
 // Makes the part of each tree, in their order.
 fn build_all<T: Build>(
     trees: Vec<T>,
-    symbols: &[Symbol],
+    named: &NamedParts,
     alloc: Global,
 ) -> Result<Items<T::Part>, AllocError>
-    ensures { IfOk result (λ made. made ≡ map (T.part symbols.now) trees.items) }
+    ensures { IfOk result (λ made. made ≡ map (T.part named.now) trees.items) }
 {
     let mut parts = Vec::with_capacity(alloc, trees.len())?;
     for tree in trees {
-        parts.push(tree.build(symbols, alloc)?)?;
+        parts.push(tree.build(named, alloc)?)?;
     }
     Ok(Items::of(parts))
 }
@@ -75,13 +76,13 @@ impl Build for Values {
 
     ghost part = { style_of };
 
-    fn build(self, symbols: &[Symbol], _alloc: Global) -> Result<Style, AllocError> {
+    fn build(self, named: &NamedParts, _alloc: Global) -> Result<Style, AllocError> {
         Ok(Style::new(StyleFields {
             colour: painted(&self, ColourKeyword::Color),
             outline: painted(&self, ColourKeyword::OutlineColor),
             width: count_or(&self, CountKeyword::Width, 1) as u8,
             size: count_or(&self, CountKeyword::Size, 1),
-            symbol: symbol_index(symbol_of(&self), symbols),
+            symbol: symbol_index(symbol_of(&self), named.symbols.as_slice()),
         }))
     }
 }
@@ -107,9 +108,10 @@ fn outline_width(label: &Values) -> u8
 }
 
 // The label of a class.
-fn label_of(values: Values) -> Label
-    ensures { result ≡ label_of values }
+fn label_of(values: Values, named: &NamedParts) -> Label
+    ensures { result ≡ label_of named.now values }
 {
+    let fonts = named.fonts.as_slice();
     let black = Rgb {
         red: 0,
         green: 0,
@@ -123,6 +125,8 @@ fn label_of(values: Values) -> Label
         colour: colour.unwrap_or(Some(black)),
         outline: painted(&values, ColourKeyword::OutlineColor),
         outline_width: outline_width(&values),
+        font: font_index(values.plain_text(TextKeyword::Font), fonts),
+        lacks_font: is_unknown(values.plain_text(TextKeyword::Font), fonts),
         priority: count_or(&values, CountKeyword::Priority, 1) as u8,
         position: position.unwrap_or(Position::Centre),
         buffer: count_or(&values, CountKeyword::Buffer, 0) as u8,
@@ -139,7 +143,7 @@ impl Build for ClassTree {
 
     ghost part = { class_of };
 
-    fn build(self, symbols: &[Symbol], alloc: Global) -> Result<Class, AllocError> {
+    fn build(self, named: &NamedParts, alloc: Global) -> Result<Class, AllocError> {
         let ClassTree {
             values,
             styles,
@@ -151,8 +155,8 @@ impl Build for ClassTree {
             rule: rule_of(values.into_rule()),
             min,
             max,
-            styles: build_all(styles.into_vec(), symbols, alloc)?,
-            label: label.map(label_of),
+            styles: build_all(styles.into_vec(), named, alloc)?,
+            label: label.map(|values| label_of(values, named)),
         }))
     }
 }
@@ -160,13 +164,13 @@ impl Build for ClassTree {
 // The classes of a layer.
 fn classes_of(
     classes: Capped<ClassTree, MAX_CLASSES>,
-    symbols: &[Symbol],
+    named: &NamedParts,
     alloc: Global,
 ) -> Result<SharedItems<Class>, AllocError>
-    ensures value { IfOk result (λ made. made ≡ map (class_of symbols.now) classes) }
+    ensures value { IfOk result (λ made. made ≡ map (class_of named.now) classes) }
     ensures limit { IfOk result (λ made. length made ≤ MAX_CLASSES) }
 {
-    let classes = build_all(classes.into_vec(), symbols, alloc)?;
+    let classes = build_all(classes.into_vec(), named, alloc)?;
     SharedItems::new(alloc, classes)
 }
 
@@ -174,11 +178,11 @@ fn classes_of(
 fn layer_of(
     tree: LayerTree,
     table: Option<Table>,
-    symbols: &[Symbol],
+    named: &NamedParts,
     alloc: Global,
 ) -> Result<Layer, AllocError>
     requires { HasRoom tree table }
-    ensures { IfOk result (λ made. made ≡ layer_of symbols.now (tree, table)) }
+    ensures { IfOk result (λ made. made ≡ layer_of named.now (tree, table)) }
 {
     let LayerTree {
         name: Named { text: name, .. },
@@ -192,7 +196,7 @@ fn layer_of(
         features,
     } = body;
     let layer = empty_layer(&values, name, geometry, alloc)?;
-    let classes = classes_of(classes, symbols, alloc)?;
+    let classes = classes_of(classes, named, alloc)?;
     let (items, features) = with_items(values.into_items(), features, table, alloc)?;
     Ok(Layer::new(LayerFields {
         items,
@@ -206,11 +210,11 @@ fn layer_of(
 fn layers_of(
     trees: Vec<LayerTree>,
     tables: Vec<Option<Table>>,
-    symbols: &[Symbol],
+    named: &NamedParts,
     alloc: Global,
 ) -> Result<Items<Layer>, AllocError>
     requires { HaveRoom trees.items tables.items }
-    ensures { IfOk result (λ made. made ≡ map (layer_of symbols.now) (zip trees.items tables.items)) }
+    ensures { IfOk result (λ made. made ≡ map (layer_of named.now) (zip trees.items tables.items)) }
 {
     let mut layers = Vec::with_capacity(alloc, trees.len())?;
     let mut tables = tables.into_iter();
@@ -219,7 +223,7 @@ fn layers_of(
             Some(table) => table,
             None => None,
         };
-        layers.push(layer_of(tree, table, symbols, alloc)?)?;
+        layers.push(layer_of(tree, table, named, alloc)?)?;
     }
     Ok(Items::of(layers))
 }
@@ -248,34 +252,50 @@ fn area_of(extent: Option<&Extent>) -> WorldBox
     }
 }
 
-// What the files of a mapfile are read as: the pixmaps of its symbols, the tables of its layers, and its font.
+// What the files of a mapfile are read as: the pixmaps of its symbols, the tables of its layers, and its fonts.
 #[derive(Drop)]
 struct FileParts {
     symbols: SharedItems<Symbol>,
     tables: Items<Option<Table>>,
-    font: Option<Shared<Font>>,
+    fonts: SharedItems<Font>,
+}
+
+// What the blocks of a map with these symbols may name, where it uses these files.
+fn named_parts(
+    symbols: SharedItems<Symbol>,
+    files: Items<UsedFile>,
+    alloc: Global,
+) -> Result<NamedParts, AllocError>
+    ensures { IfOk result (λ named. named ≡ record { symbols = symbols; fonts = font_keys files }) }
+{
+    Ok(NamedParts {
+        symbols,
+        fonts: font_keys(files.into_vec(), alloc)?,
+    })
 }
 
 // The map of a tree with what its files are read as. It takes the vertices over as they are.
 fn map_with(tree: MapTree, parts: FileParts, alloc: Global) -> Result<Map, AllocError>
     requires symbols { length parts.symbols ≤ MAX_SYMBOLS }
     requires room { HaveRoom tree.layers parts.tables }
-    ensures { IfOk result (λ made. made ≡ map_with parts.symbols parts.tables parts.font tree) }
+    ensures { IfOk result (λ made. made ≡ map_with parts.symbols parts.tables parts.fonts tree) }
 {
     let FileParts {
         symbols,
         tables,
-        font,
+        fonts,
     } = parts;
-    let MapTree { values, layers, .. } = tree;
+    let MapTree {
+        values,
+        layers,
+        files,
+        ..
+    } = tree;
     let title = text_or(service_title(&values), "WMS", alloc)?;
     let url = text_or(service_url(&values), "http://localhost/wms?", alloc)?;
-    let layers = layers_of(
-        layers.into_vec(),
-        tables.into_vec(),
-        symbols.as_slice(),
-        alloc,
-    )?;
+    let named = named_parts(symbols, files, alloc)?;
+    let layers = layers_of(layers.into_vec(), tables.into_vec(), &named, alloc)?;
+    let NamedParts { symbols, .. } = named;
     Ok(Map::new(MapFields {
         title,
         url,
@@ -283,7 +303,7 @@ fn map_with(tree: MapTree, parts: FileParts, alloc: Global) -> Result<Map, Alloc
         png: values.flag(FlagKeyword::Png).unwrap_or(false),
         mercator: values.flag(FlagKeyword::Mercator).unwrap_or(false),
         smoothing: factor_in(&values),
-        font,
+        fonts,
         symbols,
         layers,
     }))
@@ -293,7 +313,7 @@ fn map_with(tree: MapTree, parts: FileParts, alloc: Global) -> Result<Map, Alloc
 fn read_files(tree: &MapTree, files: &Files, alloc: Global) -> Result<FileParts, ParseFault>
     ensures symbols { IfOk result (λ made. symbols_of files.now tree.now.symbols ≡ Ok made.symbols) }
     ensures tables { IfOk result (λ made. tables_of files.now tree.now.layers ≡ Ok made.tables) }
-    ensures font { IfOk result (λ made. font_given files.now (font_file tree.now) ≡ Ok made.font) }
+    ensures fonts { IfOk result (λ made. fonts_of files.now tree.now ≡ Ok made.fonts) }
     ensures limit { IfOk result (λ made. length made.symbols ≤ MAX_SYMBOLS) }
     ensures room { IfOk result (λ made. HaveRoom tree.now.layers made.tables) }
     ensures fault { IfErr result (IsFaultOf (made_of files.now tree.now)) }
@@ -301,7 +321,7 @@ fn read_files(tree: &MapTree, files: &Files, alloc: Global) -> Result<FileParts,
     Ok(FileParts {
         symbols: symbols_of(tree.symbols.as_slice(), files, alloc)?,
         tables: tables_of(tree.layers.as_slice(), files, alloc)?,
-        font: font_given(font_file(tree), files, alloc)?,
+        fonts: fonts_of(tree, files, alloc)?,
     })
 }
 

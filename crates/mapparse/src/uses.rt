@@ -1,19 +1,21 @@
-ghost use Rattle.std.specs.Prelude.{◌≡◌, [], true, Some, take, drop, is_some, option_map, IfOk, IfSome, OnOk};
+ghost use Rattle.std.specs.Prelude.{◌≡◌, ◌&&◌, true, is_some, option_map, IfOk, IfSome, OnOk};
 ghost use Rattle.std.specs.List.{list_any};
 ghost use Rattle.mapwords.specs.declared.fault.ParseKind.TheVariants.{BadFile};
 ghost use Rattle.mapparse.specs.Fault.{kind_of, fault_in};
-ghost use Rattle.mapparse.specs.Uses.{is_among, with_use, uses_after, with_font, font_file, first_uses, uses_of, is_named, lacks_pixmap, lacks_table, lacks_font, is_bad, refuses, is_same_use, is_used_there, keyword_of, keyword_by, file_fault, files_fault, IsOfUse};
+ghost use Rattle.mapparse.specs.Uses.{is_among, with_use, first_uses, uses_of, is_named, lacks_pixmap, lacks_table, lacks_some_font, is_bad, refuses, is_same_use, is_used_there, is_font_there, keyword_of, keyword_by, file_fault, files_fault, IsOfUse};
+ghost use Rattle.mapdefs.specs.Name.{is_same_name};
 ghost use Rattle.mapparse.specs.Files.{bytes_in};
+ghost use Rattle.mapparse.specs.Fonts.{is_font};
 
 use crate::fault::{FileCause, FileFault};
 use crate::files::Files;
-use crate::font::font_of;
+use crate::font::{font_of, is_font, most_side};
 use crate::table::table_for;
 use bdffont::{FontError, FontFault};
 use csvpoints::{CsvError, CsvFault};
 use mapdefs::{Duplicate, Items, Text};
-use maptree::{LayerTree, MapTree, Named, SymbolTree};
-use mapwords::{Keyword, TextKeyword};
+use maptree::{LayerTree, MapTree, Named, SymbolTree, UsedFile};
+use mapwords::Keyword;
 use std::alloc::{AllocError, Global};
 use symbols::{PixFault, read};
 
@@ -35,70 +37,16 @@ fn add_use(firsts: &mut Vec<Named>, file: &Named, alloc: Global) -> Result<(), A
     Ok(())
 }
 
-// Adds the uses of files, in their order.
-fn add_uses(firsts: &mut Vec<Named>, files: &[Named], alloc: Global) -> Result<(), AllocError>
-    ensures { OnOk result (firsts.new.items ≡ uses_after firsts.old.items files.now) }
-{
-    for file in files {
-        add_use(firsts, file, alloc)?;
-    }
-    Ok(())
-}
-
-// The first so many files, and those after them.
-fn parted(files: &[Named], count: usize) -> (&[Named], &[Named])
-    ensures before { result.0.now ≡ take count files.now }
-    ensures after { result.1.now ≡ drop count files.now }
-{
-    if count < files.len() {
-        files.split_at(count)
-    } else {
-        (files, &[])
-    }
-}
-
-/// The file that the font of the labels is in.
-pub fn font_file(tree: &MapTree) -> Option<&Named>
-    ensures { option_map (λ x. x.now) result ≡ font_file tree.now }
-{
-    tree.values.text(TextKeyword::LabelFont)
-}
-
-// The first uses of files, with that of a font after so many of these.
-fn uses_with_font(
-    font: &Named,
-    before: usize,
-    files: &[Named],
-    alloc: Global,
-) -> Result<Vec<Named>, AllocError>
-    ensures { IfOk result (λ firsts. firsts.items ≡ uses_after [] (with_font (Some font.now) before files.now)) }
-{
-    let (before, after) = parted(files, before);
-    let mut firsts = Vec::new(alloc);
-    add_uses(&mut firsts, before, alloc)?;
-    add_use(&mut firsts, font, alloc)?;
-    add_uses(&mut firsts, after, alloc)?;
-    Ok(firsts)
-}
-
-// The first uses of files, where there is no font.
-fn uses_without_font(files: &[Named], alloc: Global) -> Result<Vec<Named>, AllocError>
-    ensures { IfOk result (λ firsts. firsts.items ≡ uses_after [] files.now) }
-{
-    let mut firsts = Vec::new(alloc);
-    add_uses(&mut firsts, files, alloc)?;
-    Ok(firsts)
-}
-
 // The first use of each file, in their order.
 fn first_uses(tree: &MapTree, alloc: Global) -> Result<Vec<Named>, AllocError>
     ensures { IfOk result (λ firsts. firsts.items ≡ first_uses tree.now) }
 {
-    let files = tree.files.as_slice();
-    match font_file(tree) {
-        Some(font) => uses_with_font(font, tree.before_font, files, alloc),
-        None => uses_without_font(files, alloc),
+    let mut firsts = Vec::new(alloc);
+    let all = tree.files.as_slice();
+    for used in all {
+        add_use(&mut firsts, &used.file, alloc)?;
     }
+    Ok(firsts)
 }
 
 /// The names of the files that a mapfile uses, each once, in the order of their first use.
@@ -166,23 +114,34 @@ fn table_fault(
     Ok(None)
 }
 
-// Why the bytes of the file of this name are no font, where the map has its font in it.
+// Whether a file of this name is used as a font.
+fn is_font_named(name: &str, used: &UsedFile) -> bool
+    ensures { result ≡ (is_font used.now && is_same_name used.now.file.text name.now) }
+{
+    is_font(used) && used.file.text.as_str() == name
+}
+
+// Why the bytes of the file of this name are no font, where the map has one of its fonts in it.
 fn font_fault(
+    tree: &MapTree,
     name: &str,
     bytes: &[u8],
-    font: Option<&Named>,
     alloc: Global,
 ) -> Result<Option<FontFault>, AllocError>
-    ensures { IfOk result (λ found. is_some found ≡ lacks_font name.now bytes.now (option_map (λ x. x.now) font.entry)) }
+    ensures { IfOk result (λ found. is_some found ≡ lacks_some_font tree.now name.now bytes.now) }
 {
-    match font {
-        Some(file) if file.text.as_str() == name => match font_of(bytes, alloc) {
-            Ok(_) => Ok(None),
-            Err(FontError::NoMemory) => Err(AllocError),
-            Err(FontError::Fault(fault)) => Ok(Some(fault)),
-        },
-        _ => Ok(None),
+    let most = most_side(&tree.values);
+    let all = tree.files.as_slice();
+    for used in all {
+        if is_font_named(name, used) {
+            match font_of(most, bytes, alloc) {
+                Ok(_) => {}
+                Err(FontError::NoMemory) => return Err(AllocError),
+                Err(FontError::Fault(fault)) => return Ok(Some(fault)),
+            }
+        }
     }
+    Ok(None)
 }
 
 // Why the bytes of the file of this name don't fit some use of it.
@@ -202,7 +161,7 @@ fn cause_in(
     if let Some(fault) = table_fault(name, bytes, tree.layers.as_slice(), alloc)? {
         return Ok(Some(FileCause::NoTable(fault)));
     }
-    match font_fault(name, bytes, font_file(tree), alloc)? {
+    match font_fault(tree, name, bytes, alloc)? {
         Some(fault) => Ok(Some(FileCause::NoFont(fault))),
         None => Ok(None),
     }
@@ -234,6 +193,15 @@ fn is_image_use(file: &Named, symbols: &[SymbolTree]) -> bool
         .any(|symbol| is_used_there(file, &symbol.image))
 }
 
+// Whether the file of some font is named there.
+fn is_font_use(file: &Named, files: &[UsedFile]) -> bool
+    ensures { result ≡ list_any (is_font_there file.now) files.now }
+{
+    files
+        .iter()
+        .any(|used| is_font(used) && is_same_use(&used.file, file))
+}
+
 // The keyword that names a file there.
 fn keyword_of(tree: &MapTree, file: &Named) -> Keyword
     ensures { result ≡ keyword_of tree.now file.now }
@@ -241,10 +209,10 @@ fn keyword_of(tree: &MapTree, file: &Named) -> Keyword
     if is_image_use(file, tree.symbols.as_slice()) {
         return Keyword::Image;
     }
-    match font_file(tree) {
-        Some(font) if is_same_use(font, file) => Keyword::Config,
-        _ => Keyword::Data,
+    if is_font_use(file, tree.files.as_slice()) {
+        return Keyword::Config;
     }
+    Keyword::Data
 }
 
 // The keyword of the use that a cause is about.

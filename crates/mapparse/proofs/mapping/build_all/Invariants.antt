@@ -3,4 +3,4 @@ use Rattle.std.specs.Vec.Iter.{into_iter_items}
 use Rattle.mapparse.proofs.mapping.build_all.Given as goal
 
 abbrev pub invariant-loop-tree : goal.invariant-loop-tree
-invariant-loop-tree g l = l.parts.items ++ map (g.T.Build.part l.symbols) (into_iter_items l.tree-iterator) ≡ map (g.T.Build.part l.symbols) l.fn.trees.items
+invariant-loop-tree g l = l.parts.items ++ map (g.T.Build.part l.named) (into_iter_items l.tree-iterator) ≡ map (g.T.Build.part l.named) l.fn.trees.items

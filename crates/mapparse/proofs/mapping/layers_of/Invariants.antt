@@ -7,6 +7,6 @@ use Rattle.mapparse.proofs.mapping.layers_of.Given as goal
 -- the layers so far and those of the trees that are left are all
 abbrev pub invariant-loop-tree : goal.invariant-loop-tree
 invariant-loop-tree l = record {
-  all : l.layers.items ++ map (layer_of l.symbols) (zip (into_iter_items l.tree-iterator) (into_iter_items l.tables)) ≡ map (layer_of l.symbols) (zip l.fn.trees.items l.fn.tables.items);
+  all : l.layers.items ++ map (layer_of l.named) (zip (into_iter_items l.tree-iterator) (into_iter_items l.tables)) ≡ map (layer_of l.named) (zip l.fn.trees.items l.fn.tables.items);
   room : HaveRoom (into_iter_items l.tree-iterator) (into_iter_items l.tables);
 }

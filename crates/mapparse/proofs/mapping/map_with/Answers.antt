@@ -7,7 +7,7 @@ use Rattle.mapparse.proofs.mapping.map_with.Goals as goal
 pub new-requires : goal.new-requires
 new-requires c = record {
   extent = c.area_of.ensures.limits;
-  symbol_count = c.requires.symbols;
+  symbol_count = rw c.in_ok-named.ensures c.requires.symbols;
   layer_count = rw (c.in_ok-layers.ensures, length-map) (omega (arith, zip-at_most c.into_vec.result.items c.into_vec-2.result.items, c.into_vec.ensures.limit));
-  symbols = rw (c.in_ok-layers.ensures, c.as_slice.ensures) (∣ layer_symbols c.args.parts.symbols _ ∣₁);
+  symbols = rw c.in_ok-layers.ensures (∣ layer_symbols c.in_ok-named.named _ ∣₁);
 }
