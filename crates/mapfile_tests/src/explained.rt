@@ -68,7 +68,7 @@ sound|MAP END
 2: 1001 is no latitude in POINTS: a number from -1000 to 1000|MAP LAYER FEATURE POINTS 1 2 3~1001
 2: (a) is no key of METADATA|MAP WEB METADATA a b~(a)
 1: (f) is no value of CONFIG, which takes a word or a quoted text|MAP CONFIG LABELFONT (f)
-2: \"LABELFONT a.b\" is no value of CONFIG, which takes a key, as LABELFONT, a space and a name of letters, digits, - and _|MAP CONFIG~'LABELFONT a.b' f
+2: \"LABELFONT a.b\" is no value of CONFIG, which takes a key: after LABELFONT and a space comes a name of letters, digits, - and _|MAP CONFIG~'LABELFONT a.b' f
 2: image/gif is no value of CONFIG, which takes image/png, image/x-portable-pixmap and image/x-portable-arbitrarymap, with spaces between them|MAP CONFIG WMS_FORMATS~image/gif
 2: EPSG:25832 is no value of CONFIG, which takes EPSG:3857 alone|MAP CONFIG WMS_CRS~EPSG:25832
 2: CONFIG has no value|MAP CONFIG WMS_CRS~END
