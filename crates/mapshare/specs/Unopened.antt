@@ -12,7 +12,7 @@ no_state = record {
     png = false;
     mercator = false;
     smoothing = 1;
-    font = None;
+    fonts = [];
     symbols = [];
     layers = [];
   };
