@@ -28,7 +28,6 @@ fn plain_text(expected: &Expected) -> &'static str {
         Expected::Smoothing => "1, 2, 3 or 4",
         Expected::ConfigKey =>
             "a key: after LABELFONT and a space comes a name of letters, digits, - and _",
-        Expected::FontFile(_) => "the name of a file",
         // Texts, settings, and what has no effect.
         _ => "a word or a quoted text",
     }
