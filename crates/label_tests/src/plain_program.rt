@@ -241,7 +241,7 @@ fn next_text(state: &mut u64) -> &'static str {
 fn next_label(state: &mut u64, fonts: usize) -> LabelFields {
     let plain = plain_label();
     let font = if fonts > 1 {
-        next(state, 2) as usize
+        next(state, 2).clamp(0, 1) as usize
     } else {
         0
     };

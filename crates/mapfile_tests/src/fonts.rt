@@ -152,7 +152,7 @@ fn made_and_used(alloc: Global, row: &str) -> Result<String, AllocError> {
 
 #[test]
 fn maps_have_the_fonts_that_they_name_last(rt: HostRuntime) -> Result<(), TableFault> {
-    check_rows(rt.alloc(), ROWS, '~', 41, made_and_used)
+    check_rows(rt.alloc(), ROWS, '~', 42, made_and_used)
 }
 
 // A map with the font of labels that name none, so many fonts named n1, n2 and so on, each on a line of its own, and one more with a

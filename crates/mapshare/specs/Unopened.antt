@@ -1,5 +1,5 @@
 -- The name of a sharing that nobody has opened.
-use Rattle.std.specs.Prelude.{false, pos, [], None}
+use Rattle.std.specs.Prelude.{false, pos, []}
 use Rattle.batches.specs.Batch.{State}
 
 -- the state of an empty map, which names a sharing that nobody has opened
