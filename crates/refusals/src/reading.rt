@@ -12,8 +12,9 @@ use std::io;
 use symbols::PixFault;
 use wmsquery::{QueryError, Request};
 
-// A map with a file of each kind, and one without.
-const MAPFILE: &[u8] = b"MAP CONFIG LABELFONT f.bdf SYMBOL NAME s TYPE PIXMAP IMAGE s.ppm END \
+// A map with a file of each kind, of which two fonts have one, and one without.
+const MAPFILE: &[u8] =
+    b"MAP CONFIG LABELFONT f.bdf CONFIG 'LABELFONT n' f.bdf SYMBOL NAME s TYPE PIXMAP IMAGE s.ppm END \
 LAYER NAME p TYPE POINT DATA t.csv LABELITEM n PROCESSING 'ITEMS=x,y' METADATA wms_title t END \
 CLASS EXPRESSION ([x] = 1 AND NOT '[n]' IN 'b,c') STYLE SYMBOL s END LABEL END END \
 FEATURE ITEMS '1;2' TEXT t POINTS 1 2 END END END END";
