@@ -2,7 +2,7 @@
 """Looks whether the pictures of demo/ are those that the program draws. Usage: demo_pictures.py PROGRAM
 
 Each script there beside which a PNG of its name stands is played on its map: one of the pictures that come has to have the
-PNG's pixels. demo/letters.map needs the font that demo/README.md has made. It ends with 1 where a picture differs or is
+PNG's pixels. demo/letters.map and letters4.map need the fonts that are made by the lines at their tops. It ends with 1 where a picture differs or is
 missing. It needs python3-pil.
 """
 import glob
