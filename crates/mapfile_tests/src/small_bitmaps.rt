@@ -77,10 +77,12 @@ a.map: warning: LAYER 1 has an empty NAME, so that LAYERS can't ask for it~a.map
 
 // The warnings on a map of factor 3 with two fonts of these heights.
 fn warnings_of_two(alloc: Global, row: &str) -> Result<String, AllocError> {
-    let Some([first, second]) = numbers::<2>(row, ' ') else {
+    let Some(heights) = numbers::<2>(row, ' ') else {
         return format!(in alloc; "malformed");
     };
-    let (first, second) = (font_of(alloc, first)?, font_of(alloc, second)?);
+    let [first_height, second_height] = heights;
+    let first = font_of(alloc, first_height)?;
+    let second = font_of(alloc, second_height)?;
     let mut files = Files::new(alloc);
     add_file(&mut files, alloc, "f.bdf", first.as_bytes())?;
     add_file(&mut files, alloc, "g.bdf", second.as_bytes())?;
